@@ -1,0 +1,6 @@
+pub mod Clip
+pub mod Shift
+pub mod Product
+pub mod Div
+pub mod Norm
+pub mod Results

@@ -1,0 +1,1 @@
+// Laws of the operations of 4.1; no code.

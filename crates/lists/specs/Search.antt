@@ -1,0 +1,242 @@
+-- For a loop that looks for the first place where a test holds (`first`), or for the largest element and its first place (`best`).
+use mathlib.Core.Path.{_≡_, refl, sym, ap, _∙_}
+use mathlib.Core.Bool.{Bool, true, false, cond, not, true≢false}
+use mathlib.Core.List.{List, [], _∷_, _++_, foldl, foldl-append}
+use mathlib.Core.Logic.{_⊎_, ⊎-elim}
+use Prim.Native.Nat.{ℕ, zero, suc, _+_, _-_, _≤_, _<_}
+use native.Mathlib.Nat.{eq-or-lt-of-le, le-of-suc-le-suc, sub-eq-zero-of-le}
+use native.Mathlib.Numerals.{add-one}
+use native.Mathlib.Omega.{arith}
+use lib.IntN.{ℤ, pos}
+use lib.Signed.{ltZ, leZ}
+use lib.ListN.{length, getD, take, length-append, List·getD-append}
+use lib.Seq.{take-suc, getD-append-seam, length-take-le}
+use borrow.Author.Tests.{not-true, not-false}
+use Rattle.integers.specs.Halves.{zar}
+use Rattle.lists.specs.Steps.{fold-keeps}
+
+-- what holds of x where the test passes, and of y where it fails, holds of the one that the test picks
+by-cond : {A : Type 0} (P : A → Type 0) (b : Bool) {x y : A} → (b ≡ true → P x) → (b ≡ false → P y) → P (cond b x y)
+by-cond P true u v = u refl
+by-cond P false u v = v refl
+
+module _ (p : ℕ → Bool) where
+  -- the first of the n places from i on where p holds, or i + n where there is none (by the `let`, what lies beyond it is not computed)
+  unfoldable pub first : ℕ → ℕ → ℕ
+  first zero i = i
+  first (suc n) i =
+      let r = first n (suc i) in
+      cond (p i) i r
+
+  -- a turn of a loop whose invariant is `first (e - i) i ≡ first e 0`, where p holds at i
+  pub first-here : (e i : ℕ) → i < e → p i ≡ true → first (e - i) i ≡ i
+  unfolding first
+  first-here e i h t =
+      let k : e - i ≡ suc (e - (i + 1)) = omega arith in
+      rw (k, t)
+
+  -- a turn where p fails at i
+  pub first-later : (e i : ℕ) → i < e → p i ≡ false → first (e - i) i ≡ first (e - (i + 1)) (i + 1)
+  unfolding first
+  first-later e i h t =
+      let k : e - i ≡ suc (e - (i + 1)) = omega arith in
+      rw (k, t, add-one)
+
+  -- after the loop, where p held nowhere
+  pub first-end : (e i : ℕ) → e ≤ i → first (e - i) i ≡ i
+  unfolding first
+  first-end e i h = rw (sub-eq-zero-of-le h)
+
+  -- it is none of the places before i
+  pub first-ge : (n i : ℕ) → i ≤ first n i
+  unfolding first
+  first-ge zero i = omega arith
+  first-ge (suc n) i = by-cond (λ k. i ≤ k) (p i) (λ e. omega arith) (λ e. omega (arith, first-ge n (suc i)))
+
+  -- nor one beyond the end
+  pub first-le : (n i : ℕ) → first n i ≤ i + n
+  unfolding first
+  first-le zero i = omega arith
+  first-le (suc n) i = by-cond (λ k. k ≤ i + suc n) (p i) (λ e. omega arith) (λ e. omega (arith, first-le n (suc i)))
+
+  -- p holds there, unless it is the end
+  pub first-holds : (n i : ℕ) → first n i < i + n → p (first n i) ≡ true
+  unfolding first
+  first-holds zero i = λ h. absurd (omega arith)
+  first-holds (suc n) i = by-cond (λ k. k < i + suc n → p k ≡ true) (p i) (λ e h. e) (λ e h. first-holds n (suc i) (omega arith))
+
+  -- p fails at each place before it
+  pub first-least : (n i j : ℕ) → i ≤ j → j < first n i → p j ≡ false
+  unfolding first
+  first-least zero i j a = λ b. absurd (omega arith)
+  first-least (suc n) i j a =
+      by-cond (λ k. j < k → p j ≡ false) (p i) (λ e b. absurd (omega arith))
+      (λ e b. ⊎-elim (λ q. ap p (sym q) ∙ e) (λ l. first-least n (suc i) j l b) (eq-or-lt-of-le a))
+
+  -- a place where p holds is not before it
+  first-until : (n i j : ℕ) → i ≤ j → p j ≡ true → first n i ≤ j
+  first-until n i j a t =
+      let before : ¬ (j < first n i) = λ h. true≢false (sym t ∙ first-least n i j a h) in
+      omega arith
+
+  -- and a place of which all this is true is the first
+  pub first-unique : (n i k : ℕ)
+      → i ≤ k → k ≤ i + n → ((j : ℕ) → i ≤ j → j < k → p j ≡ false) → (k < i + n → p k ≡ true) → first n i ≡ k
+  first-unique n i k a b f t =
+      let g : i ≤ first n i = first-ge n i in
+      let l : first n i ≤ i + n = first-le n i in
+      let before : ¬ (first n i < k) = λ h. true≢false (sym (first-holds n i (omega arith)) ∙ f (first n i) g h) in
+      let after : ¬ (k < first n i) = λ h. true≢false (sym (t (omega arith)) ∙ first-least n i k a h) in
+      omega arith
+
+-- ---- the order of ℤ, by the test `ltZ`
+
+lt-irrefl : (a : ℤ) → ltZ a a ≡ false
+lt-irrefl a = omega zar
+
+lt-asym : (a b : ℤ) → ltZ a b ≡ true → ltZ b a ≡ false
+lt-asym a b h = omega zar
+
+lt-connex : (a b : ℤ) → ltZ a b ≡ false → ltZ b a ≡ false → a ≡ b
+lt-connex a b h k = omega zar
+
+le-not-lt : (a b : ℤ) → ltZ b a ≡ false → leZ a b ≡ true
+le-not-lt a b h = omega zar
+
+le-lt : (a b c : ℤ) → ltZ b a ≡ false → ltZ b c ≡ true → ltZ a c ≡ true
+le-lt a b c h k = omega zar
+
+-- ---- the largest element
+
+-- the larger of two
+abbrev larger : ℤ → ℤ → ℤ
+larger m x = cond (ltZ m x) x m
+
+-- the largest element, or 0 where none is above 0
+unfoldable pub largest : List ℤ → ℤ
+largest = foldl larger (pos 0)
+
+-- a place and what it holds
+pub record Best : Type 0 where
+  pub at : ℕ
+  pub sum : ℤ
+
+-- the element at k is no less than m
+abbrev reaches : List ℤ → ℤ → ℕ → Bool
+reaches xs m k = not (ltZ (getD xs k (pos 0)) m)
+
+-- the largest element and the first place that holds it, or 0 and place 0 where none is above 0
+unfoldable pub best : List ℤ → Best
+best xs =
+    let m = largest xs in
+    let k = first (reaches xs m) (length xs) 0 in
+    record { at = cond (ltZ (pos 0) m) k 0; sum = m }
+
+module _ (xs : List ℤ) where
+  -- m is the largest of the first i elements, or 0 where none of them is above 0
+  record Top (i : ℕ) (m : ℤ) : Type 0 where
+    above : ltZ m (pos 0) ≡ false
+    covers : (j : ℕ) → j < i → ltZ m (getD xs j (pos 0)) ≡ false
+    held : ltZ (pos 0) m ≡ true → (j : ℕ) × (j < i) × (getD xs j (pos 0) ≡ m)
+
+  top-next : (i : ℕ) (m : ℤ) → Top i m → Top (suc i) (larger m (getD xs i (pos 0)))
+  top-next i m t =
+      let x = getD xs i (pos 0) in
+      let split : (j : ℕ) → j < suc i → (j ≡ i) ⊎ (j < i) = λ j l. eq-or-lt-of-le (le-of-suc-le-suc l) in
+      by-cond (Top (suc i)) (ltZ m x)
+      (λ h. record {
+        above = lt-asym (pos 0) x (le-lt (pos 0) m x (t .above) h);
+        covers = λ j l. ⊎-elim (λ e. rw e (lt-irrefl x)) (λ k. lt-asym _ x (le-lt _ m x (t .covers j k) h)) (split j l);
+        held = λ g. (i, omega arith, refl);
+      })
+      (λ h. record {
+        above = t .above;
+        covers = λ j l. ⊎-elim (λ e. rw e h) (t .covers j) (split j l);
+        held = λ g. let (j, l, e) = t .held g in (j, omega arith, e);
+      })
+
+  top : Top (length xs) (largest xs)
+  unfolding largest
+  top =
+      fold-keeps larger xs (pos 0) (pos 0) Top
+      (record { above = refl; covers = λ j h. absurd (omega arith); held = λ h. absurd (true≢false (sym h)) })
+      (λ i m _. top-next i m)
+
+  -- the sum is never below 0
+  pub best-above : leZ (pos 0) (best xs .sum) ≡ true
+  unfolding best
+  best-above = le-not-lt (pos 0) (largest xs) (top .above)
+
+  -- no element is above it
+  pub best-greatest : (j : ℕ) → j < length xs → leZ (getD xs j (pos 0)) (best xs .sum) ≡ true
+  unfolding best
+  best-greatest j h = le-not-lt (getD xs j (pos 0)) (largest xs) (top .covers j h)
+
+  -- where it is above 0, it is the element at the place
+  pub best-at : ltZ (pos 0) (best xs .sum) ≡ true
+      → (best xs .at < length xs) × (getD xs (best xs .at) (pos 0) ≡ best xs .sum)
+  unfolding best
+  best-at h =
+      let p = reaches xs (largest xs) in
+      let (j, l, e) = top .held h in
+      let u = first-until p (length xs) 0 j (omega arith) (rw (e, lt-irrefl (largest xs))) in
+      let k : first p (length xs) 0 < length xs = omega arith in
+      rw h (k, lt-connex _ _ (not-true _ (first-holds p (length xs) 0 (omega arith))) (top .covers _ k))
+
+  -- and each element before is below it: a tie goes to the first
+  pub best-first : (j : ℕ) → j < best xs .at → ltZ (getD xs j (pos 0)) (best xs .sum) ≡ true
+  unfolding best
+  best-first j =
+      by-cond (λ k. j < k → ltZ (getD xs j (pos 0)) (largest xs) ≡ true) (ltZ (pos 0) (largest xs))
+      (λ h l. not-false _ (first-least _ _ 0 j (omega arith) l))
+      (λ h l. absurd (omega arith))
+
+  best-is : (k : ℕ) (m : ℤ) → largest xs ≡ m → ltZ (pos 0) m ≡ true → k < length xs → ltZ (getD xs k (pos 0)) m ≡ false
+      → ((j : ℕ) → j < k → ltZ (getD xs j (pos 0)) m ≡ true) → best xs ≡ record { at = k; sum = m }
+  unfolding best
+  best-is k m e h l t f =
+      rw (e, h, first-unique (reaches xs m) (length xs) 0 k (omega arith) (omega arith) (λ j _ g. rw (f j g)) (λ _. rw t))
+
+largest-next : (xs : List ℤ) (x : ℤ) → largest (xs ++ (x ∷ [])) ≡ larger (largest xs) x
+unfolding largest
+largest-next xs x = foldl-append larger (pos 0) xs (x ∷ [])
+
+-- before a loop whose invariant is `b ≡ best (take i xs)`
+pub best-start : best [] ≡ record { at = 0; sum = pos 0 }
+unfolding best first largest
+best-start = refl
+
+-- one more element is the best where it is above the best of those before it
+pub best-next : (xs : List ℤ) (x : ℤ) → best (xs ++ (x ∷ [])) ≡ cond (ltZ (best xs .sum) x) (record { at = length xs; sum = x }) (best xs)
+unfolding best
+best-next xs x = by-cond (λ b. best (xs ++ (x ∷ [])) ≡ b) (ltZ (largest xs) x) new (λ h. old h (ltZ (pos 0) (largest xs)) refl)
+  where
+    longer : length xs < length (xs ++ (x ∷ []))
+    longer = simp length-append (omega arith)
+
+    new : ltZ (largest xs) x ≡ true → best (xs ++ (x ∷ [])) ≡ record { at = length xs; sum = x }
+    new h =
+        best-is (xs ++ (x ∷ [])) (length xs) x (rw (largest-next, h)) (le-lt (pos 0) (largest xs) x (top xs .above) h) longer
+        (rw getD-append-seam (lt-irrefl x))
+        (λ j l. rw (List·getD-append xs (x ∷ []) (pos 0) j l) (le-lt (getD xs j (pos 0)) (largest xs) x (top xs .covers j l) h))
+
+    old : ltZ (largest xs) x ≡ false → (t : Bool) → ltZ (pos 0) (largest xs) ≡ t → best (xs ++ (x ∷ [])) ≡ best xs
+    old h false g = rw (largest-next, h, g)
+    old h true g =
+        let (l, e) = best-at xs g in
+        best-is (xs ++ (x ∷ [])) (best xs .at) (largest xs) (rw (largest-next, h)) g (omega (arith, longer))
+        (rw (List·getD-append xs (x ∷ []) (pos 0) (best xs .at) l, e) (lt-irrefl (largest xs)))
+        (λ j k. rw (List·getD-append xs (x ∷ []) (pos 0) j (omega arith)) (best-first xs j k))
+
+-- a turn of that loop, in which x is read at i
+module _ (xs : List ℤ) (i : ℕ) {b : Best} {x : ℤ} (h : b ≡ best (take i xs)) (p : i < length xs) (e : x ≡ getD xs i (pos 0)) where
+  best-turn : best (take (i + 1) xs) ≡ cond (ltZ (b .sum) x) (record { at = i; sum = x }) b
+  best-turn = rw (add-one, take-suc xs i (pos 0), best-next, h, e, length-take-le i xs (omega arith))
+
+  -- x is above the best so far, and is stored with its place
+  pub best-new : ltZ (b .sum) x ≡ true → record { at = i; sum = x } ≡ best (take (i + 1) xs)
+  best-new t = rw (best-turn, t)
+
+  -- x is not, and the best stays
+  pub best-old : ltZ (b .sum) x ≡ false → b ≡ best (take (i + 1) xs)
+  best-old t = rw (best-turn, t)

@@ -1,0 +1,69 @@
+// 4.1: the operations on long words. All is done on 32 bits: a sum is tested against the limit less one operand before it is made.
+ghost use mathlib.Core.Path.{_≡_};
+ghost use mathlib.Core.Bool.{true};
+ghost use lib.IntN.{pos};
+ghost use lib.Signed.{ltZ};
+ghost use mir.Syntax.{w16};
+ghost use Rattle.standard.specs.Arithmetic.{L-add, L-sub, L-mult, keep, norm};
+
+pub fn l_add(a: i32, b: i32) -> i32
+    ensures { λ r. ⌜ r ≡ L-add a b ⌝ }
+{
+    if b < 0 {
+        if a < -2147483648 - b {
+            -2147483648
+        } else {
+            a + b
+        }
+    } else if 2147483647 - b < a {
+        2147483647
+    } else {
+        a + b
+    }
+}
+
+pub fn l_sub(a: i32, b: i32) -> i32
+    ensures { λ r. ⌜ r ≡ L-sub a b ⌝ }
+{
+    if b < 0 {
+        if 2147483647 + b < a {
+            2147483647
+        } else {
+            a - b
+        }
+    } else if a < -2147483648 + b {
+        -2147483648
+    } else {
+        a - b
+    }
+}
+
+// Twice the product, which only the two least words take past the limit.
+pub fn l_mult(a: i16, b: i16) -> i32
+    ensures { λ r. ⌜ r ≡ L-mult a b ⌝ }
+{
+    let p = a as i32 * b as i32;
+    if 1073741823 < p { 2147483647 } else { p + p }
+}
+
+// L_var1 = var1.
+pub fn long_word(a: i16) -> i32
+    ensures { λ r. ⌜ r ≡ a ⌝ }
+{
+    a as i32
+}
+
+// var2 = L_var1: the low 16 bits, by way of the top of the long word and back.
+pub fn low_word(a: i32) -> i16
+    ensures { λ r. ⌜ r ≡ keep w16 a ⌝ }
+{
+    ((a << 16) >> 16) as i16
+}
+
+// One less than the zeros above the highest bit of a positive number.
+pub fn norm(a: i32) -> i16
+    requires { ⌜ ltZ (pos 0) a ≡ true ⌝ }
+    ensures { λ r. ⌜ r ≡ norm a ⌝ }
+{
+    (u32::leading_zeros(a as u32) - 1) as i16
+}

@@ -1,0 +1,29 @@
+use Prim.Native.Nat.{_≤_, _-_}
+use borrow.Author.Needs.{needs}
+use Rattle.operations.proofs.print_row.Statement.{statement}
+use Rattle.operations.proofs.print_row.Tie as tie
+
+abbrev Inv-loop : tie.InvT-loop
+Inv-loop _ _ _ _ _ j = j ≤ 20
+
+abbrev μ-loop : tie.MeasureT-loop
+μ-loop _ _ _ _ _ j = 20 - j
+
+pub print-row-spec : {M : Type 1} → statement M
+print-row-spec =
+    tie.close
+    (tie.spec
+    Inv-loop
+    μ-loop
+    (λ c κs. search needs)
+    (λ c κs. search needs)
+    (λ c. search needs)
+    (λ c. search needs)
+    (λ c κs. search needs)
+    (λ c. search needs)
+    (λ c. search needs)
+    (λ c. search needs)
+    (λ c. search needs)
+    (λ c. search needs)
+    (λ c κs. search needs)
+    (λ c. search needs))

@@ -1,0 +1,87 @@
+// 4.1: both shifts, of a word and of a long word. To the right they round down; to the left they keep the low bits; a negative
+// count shifts the other way.
+ghost use mathlib.Core.Path.{_≡_};
+ghost use lib.IntN.{natAbs};
+ghost use mir.Syntax.{w16, w32};
+ghost use Rattle.standard.specs.Arithmetic.{down, up, shr, shl};
+
+// The size of a count.
+fn size(n: i16) -> u16
+    ensures { λ r. ⌜ r ≡ natAbs n ⌝ }
+{
+    if n < 0 {
+        (0 - n as i32) as u16
+    } else {
+        n as u16
+    }
+}
+
+// From 15 on only the sign is left.
+fn down_word(x: i16, n: u16) -> i16
+    ensures { λ r. ⌜ r ≡ down x n ⌝ }
+{
+    if n < 15 { x >> n } else { x >> 15 }
+}
+
+// From 16 on nothing is left.
+fn up_word(x: i16, n: u16) -> i16
+    ensures { λ r. ⌜ r ≡ up w16 x n ⌝ }
+{
+    if n < 16 { x << n } else { 0 }
+}
+
+fn down_long(x: i32, n: u16) -> i32
+    ensures { λ r. ⌜ r ≡ down x n ⌝ }
+{
+    if n < 31 { x >> n } else { x >> 31 }
+}
+
+fn up_long(x: i32, n: u16) -> i32
+    ensures { λ r. ⌜ r ≡ up w32 x n ⌝ }
+{
+    if n < 32 { x << n } else { 0 }
+}
+
+// x >> n of a word.
+pub fn shr(x: i16, n: i16) -> i16
+    ensures { λ r. ⌜ r ≡ shr w16 x n ⌝ }
+{
+    if n < 0 {
+        up_word(x, size(n))
+    } else {
+        down_word(x, size(n))
+    }
+}
+
+// x << n of a word: the wrapping helper of 4.2.4's rescaling.
+pub fn shl(x: i16, n: i16) -> i16
+    ensures { λ r. ⌜ r ≡ shl w16 x n ⌝ }
+{
+    if n < 0 {
+        down_word(x, size(n))
+    } else {
+        up_word(x, size(n))
+    }
+}
+
+// x >> n of a long word.
+pub fn l_shr(x: i32, n: i16) -> i32
+    ensures { λ r. ⌜ r ≡ shr w32 x n ⌝ }
+{
+    if n < 0 {
+        up_long(x, size(n))
+    } else {
+        down_long(x, size(n))
+    }
+}
+
+// x << n of a long word.
+pub fn l_shl(x: i32, n: i16) -> i32
+    ensures { λ r. ⌜ r ≡ shl w32 x n ⌝ }
+{
+    if n < 0 {
+        down_long(x, size(n))
+    } else {
+        up_long(x, size(n))
+    }
+}

@@ -1,0 +1,84 @@
+-- 4.1: the arithmetic operations, on integers. A word has 16 bits and a long word 32, in two's complement: the widths w16 and w32, of
+-- which `bits` is 16 and 32 and `hbits` is 15 and 31. A width w holds the numbers from −2 ^ hbits w to 2 ^ hbits w − 1.
+use Prim.Native.Nat.{ℕ, suc, _*_, _-_, _/_, _%_, _^_, min}
+use lib.Dec.{leb}
+use lib.IntN.{ℤ, pos, negsuc, _+ℤ_, _-ℤ_, _*ℤ_, natAbs}
+use lib.Signed.{shrZ}
+use mir.Syntax.{Width, w16, w32}
+use mir.Val.{bits, hbits, toZ}
+use Rattle.lists.specs.Search.{first}
+
+-- "overflow control and saturation": z, or the end of the range that z has passed
+unfoldable pub clip : Width → ℤ → ℤ
+clip w (pos n) = pos (min n (2 ^ hbits w - 1))
+clip w (negsuc n) = negsuc (min n (2 ^ hbits w - 1))
+
+-- z modulo m, from 0 to m − 1
+unfoldable pub modulo : ℤ → ℕ → ℕ
+modulo (pos n) m = n % m
+modulo (negsuc n) m = m - suc (n % m)
+
+-- the low bits of z, read as a number of width w. At w16 this is "var2 = L_var1: extract the 16 LSB bits"
+unfoldable pub keep : Width → ℤ → ℤ
+keep w z = toZ w (modulo z (2 ^ bits w))
+
+-- n bits to the left with zero fill, for n ≥ 0: the low bits are kept
+abbrev pub up : Width → ℤ → ℕ → ℤ
+up w z n = keep w (z *ℤ pos (2 ^ n))
+
+-- n bits to the right with sign extension, for n ≥ 0: rounded down
+abbrev pub down : ℤ → ℕ → ℤ
+down z n = shrZ z (2 ^ n)
+
+-- z << n and z >> n of a number of width w; "if n is less than 0, this operation becomes" the other one, by −n
+unfoldable pub shl : Width → ℤ → ℤ → ℤ
+shl w z (pos n) = up w z n
+shl w z (negsuc n) = down z (suc n)
+
+unfoldable pub shr : Width → ℤ → ℤ → ℤ
+shr w z (pos n) = down z n
+shr w z (negsuc n) = up w z (suc n)
+
+-- a sum and a difference at width w
+unfoldable pub plus : Width → ℤ → ℤ → ℤ
+plus w a b = clip w (a +ℤ b)
+
+unfoldable pub minus : Width → ℤ → ℤ → ℤ
+minus w a b = clip w (a -ℤ b)
+
+abbrev pub add : ℤ → ℤ → ℤ
+add = plus w16
+
+abbrev pub sub : ℤ → ℤ → ℤ
+sub = minus w16
+
+-- the clip is met by the two least words alone, which give 32767
+unfoldable pub mult : ℤ → ℤ → ℤ
+mult a b = clip w16 (down (a *ℤ b) 15)
+
+unfoldable pub mult-r : ℤ → ℤ → ℤ
+mult-r a b = clip w16 (down (a *ℤ b +ℤ pos 16384) 15)
+
+unfoldable pub abs : ℤ → ℤ
+abs a = clip w16 (pos (natAbs a))
+
+-- the fraction n / d in 15 bits, truncated; n = d gives 32767. House rule: a zero numerator gives 0, whatever the divisor.
+-- 001 asks for d ≥ n > 0. Outside, it is 32767 for n > d > 0, as 001's loop has it, and 0 for a negative n or a d that is not positive
+unfoldable pub div : ℤ → ℤ → ℤ
+div (pos n) (pos d) = clip w16 (pos (n * 32768 / d))
+div (pos n) (negsuc d) = pos 0
+div (negsuc n) d = pos 0
+
+-- twice the product; the two least words, which "do not occur", clip
+unfoldable pub L-mult : ℤ → ℤ → ℤ
+L-mult a b = clip w32 (a *ℤ b +ℤ a *ℤ b)
+
+abbrev pub L-add : ℤ → ℤ → ℤ
+L-add = plus w32
+
+abbrev pub L-sub : ℤ → ℤ → ℤ
+L-sub = minus w32
+
+-- the left shifts needed to bring z to 1073741824 or above; where z is negative, to −1073741824 or below
+unfoldable pub norm : ℤ → ℤ
+norm z = pos (first (λ n. leb 1073741824 (natAbs z * 2 ^ n)) 31 0)

@@ -1,0 +1,3 @@
+pub mod Arithmetic
+pub mod Tables
+pub mod Worked

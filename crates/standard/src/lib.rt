@@ -1,0 +1,1 @@
+// Clause 4 of ETS 300 961 as definitions; no code.

@@ -1,0 +1,111 @@
+-- What the stages use of 4.4's tables.
+use Prim.Native.Nat.{ℕ, _+_, _-_, _^_, _<_, _≤_}
+use mathlib.Core.Path.{_≡_, refl, sym, ap, _∙_}
+use mathlib.Core.Bool.{true}
+use mathlib.Core.Logic.{⊎-elim}
+use mathlib.Core.List.{List, map, foldl, zipWith}
+use native.Mathlib.Omega.{arith}
+use lib.Dec.{leb}
+use lib.Pow.{pow-pos}
+use lib.IntN.{ℤ, pos, _-ℤ_, natAbs}
+use lib.ListN.{length, getD, List·getD-eq-default}
+use lib.Signed.{leZ}
+use borrow.Author.Tests.{leb-true}
+use Rattle.integers.specs.Halves.{P, N, zar, eq-is, apart, le-or-lt}
+use Rattle.integers.specs.Sums.{minus-is}
+use Rattle.lists.specs.Every.{every, every-at}
+use Rattle.lists.specs.Tab.{tab, tab-at-zero, map-at, zip-at}
+use Rattle.standard.specs.Tables.{_at_, neg, A, B, MIC, MAC, INVA, DLB, QLB, H, NRFAC, FAC, LARc-bits}
+
+-- past its end a table has 0
+pub past-end : (t : List ℤ) {i : ℕ} → length t ≤ i → pos 0 ≡ t at i
+past-end t {i} h = sym (List·getD-eq-default t (pos 0) {n = i} h)
+
+-- ---- the largest entry of each table, by size. None is the least word, so no product with an entry meets mult's clip
+
+within : (t : List ℤ) (b : ℕ) → every (λ z. leb (natAbs z) b) t ≡ true → (i : ℕ) → natAbs (t at i) ≤ b
+within t b e i =
+    ⊎-elim
+    (λ h. rw (← past-end t {i = i} h) (omega arith))
+    (λ h. leb-true (natAbs (t at i)) b (every-at (λ z. leb (natAbs z) b) t i (pos 0) e h))
+    (le-or-lt (length t) i)
+
+module _ (i : ℕ) where
+  pub A-size : natAbs (A at i) ≤ 20480
+  unfolding A every
+  A-size = within A 20480 refl i
+
+  pub B-size : natAbs (B at i) ≤ 2560
+  unfolding B every
+  B-size = within B 2560 refl i
+
+  pub MIC-size : natAbs (MIC at i) ≤ 32
+  unfolding MIC every
+  MIC-size = within MIC 32 refl i
+
+  pub MAC-size : natAbs (MAC at i) ≤ 31
+  unfolding MAC every
+  MAC-size = within MAC 31 refl i
+
+  pub INVA-size : natAbs (INVA at i) ≤ 31454
+  unfolding INVA every
+  INVA-size = within INVA 31454 refl i
+
+  pub DLB-size : natAbs (DLB at i) ≤ 32767
+  unfolding DLB every
+  DLB-size = within DLB 32767 refl i
+
+  pub QLB-size : natAbs (QLB at i) ≤ 32767
+  unfolding QLB every
+  QLB-size = within QLB 32767 refl i
+
+  pub H-size : natAbs (H at i) ≤ 8192
+  unfolding H every
+  H-size = within H 8192 refl i
+
+  pub NRFAC-size : natAbs (NRFAC at i) ≤ 29128
+  unfolding NRFAC every
+  NRFAC-size = within NRFAC 29128 refl i
+
+  pub FAC-size : natAbs (FAC at i) ≤ 32767
+  unfolding FAC every
+  FAC-size = within FAC 32767 refl i
+
+-- ---- the weighting filter
+
+turned : H ≡ tab (λ k. H at (10 - k)) 0 11
+unfolding H tab
+turned = refl
+
+-- the same from either end
+pub H-mirrored : (i : ℕ) → i < 11 → H at i ≡ H at (10 - i)
+H-mirrored i h = ap (λ (t : List ℤ). t at i) turned ∙ tab-at-zero (λ k. H at (10 - k)) 11 i (pos 0) h
+
+-- two taps are 0
+pub H-zeros : (H at 2 ≡ pos 0) × (H at 8 ≡ pos 0)
+unfolding H
+H-zeros = (refl, refl)
+
+-- 01, sum (f)
+pub H-sizes : foldl _+_ 0 (map natAbs H) ≡ 24798
+unfolding H
+H-sizes = refl
+
+-- ---- MIC, MAC and the bits of LARc
+
+spans : zipWith _-ℤ_ MAC MIC ≡ map (λ b. pos (2 ^ b - 1)) LARc-bits
+unfolding MAC MIC LARc-bits zipWith
+spans = refl
+
+-- from MIC to MAC there are as many codes as the field has values
+pub LARc-span : (i : ℕ) → i < 8 → MAC at i -ℤ MIC at i ≡ pos (2 ^ getD LARc-bits i 0 - 1)
+unfolding MAC MIC LARc-bits
+LARc-span i h =
+    sym (zip-at _-ℤ_ MAC MIC i (pos 0) (pos 0) (pos 0) h h) ∙ (ap (λ (t : List ℤ). t at i) spans ∙ map-at (λ b. pos (2 ^ b - 1)) LARc-bits i 0 (pos 0) h)
+
+-- so a code between them, once MIC is taken from it, fits its field
+pub LARc-fits : (i : ℕ) (c : ℤ) → i < 8 → leZ (MIC at i) c ≡ true → leZ c (MAC at i) ≡ true → (P (c -ℤ MIC at i) < 2 ^ getD LARc-bits i 0) × (N (c -ℤ MIC at i) ≡ 0)
+LARc-fits i c h l g =
+    let m = MIC at i in
+    let e = eq-is (MAC at i -ℤ m) (pos (2 ^ getD LARc-bits i 0 - 1)) (LARc-span i h) in
+    omega (zar, minus-is c m, minus-is (MAC at i) m, apart (c -ℤ m), apart (MAC at i -ℤ m), pow-pos (getD LARc-bits i 0))
