@@ -4,3 +4,4 @@ pub mod Product
 pub mod Div
 pub mod Norm
 pub mod Results
+pub mod Sum

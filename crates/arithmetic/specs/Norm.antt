@@ -14,7 +14,7 @@ use mir.Val.{SFits}
 use borrow.Author.Tests.{le-leb, lt-leb}
 use Rattle.integers.specs.Halves.{zar, know, abs-is}
 use Rattle.integers.specs.Sums.{scale-is}
-use Rattle.lists.specs.Search.{first-unique, first-le}
+use Rattle.lists.specs.First.{first-unique, first-le}
 use Rattle.standard.specs.Arithmetic.{norm, shl}
 use Rattle.arithmetic.specs.Shift.{shl-exact}
 

@@ -2,6 +2,7 @@ pub mod Fill
 pub mod Scan
 pub mod Tab
 pub mod Steps
-pub mod Search
+pub mod First
+pub mod Best
 pub mod Parts
 pub mod Every

@@ -6,7 +6,7 @@ use lib.IntN.{ℤ, pos, negsuc, _+ℤ_, _-ℤ_, _*ℤ_, natAbs}
 use lib.Signed.{shrZ}
 use mir.Syntax.{Width, w16, w32}
 use mir.Val.{bits, hbits, toZ}
-use Rattle.lists.specs.Search.{first}
+use Rattle.lists.specs.First.{first}
 
 -- "overflow control and saturation": z, or the end of the range that z has passed
 unfoldable pub clip : Width → ℤ → ℤ

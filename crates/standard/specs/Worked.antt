@@ -3,7 +3,7 @@
 use mathlib.Core.Path.{_≡_, refl}
 use lib.IntN.{ℤ, pos, negsuc, _-ℤ_}
 use mir.Syntax.{w16, w32}
-use Rattle.lists.specs.Search.{first}
+use Rattle.lists.specs.First.{first}
 use Rattle.standard.specs.Arithmetic.{clip, plus, minus, add, sub, L-add, L-sub, modulo, keep, shr, shl, mult, mult-r, abs, div, norm}
 use Rattle.standard.specs.Tables.{neg}
 
