@@ -117,10 +117,10 @@ fn count(i: usize) -> i16
     COUNTS[i]
 }
 
-// The size of a number, by way of 64 bits: the least number has no counterpart on 32.
+// The size of a number. The least number has no counterpart, so one is added before the sign is turned and again after.
 fn size(n: i32) -> u64 {
     if n < 0 {
-        (0 - n as i64) as u64
+        (0 - (n + 1)) as u64 + 1
     } else {
         n as u64
     }
