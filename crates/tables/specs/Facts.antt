@@ -15,61 +15,19 @@ use Rattle.integers.specs.Halves.{P, N, zar, eq-is, apart, le-or-lt}
 use Rattle.integers.specs.Sums.{minus-is}
 use Rattle.lists.specs.Every.{every, every-at}
 use Rattle.lists.specs.Tab.{tab, tab-at-zero, map-at, zip-at}
-use Rattle.standard.specs.Tables.{_at_, neg, A, B, MIC, MAC, INVA, DLB, QLB, H, NRFAC, FAC, LARc-bits}
+use Rattle.standard.specs.Tables.{_at_, MIC, MAC, H, LARc-bits}
 
 -- past its end a table has 0
 pub past-end : (t : List ℤ) {i : ℕ} → length t ≤ i → pos 0 ≡ t at i
 past-end t {i} h = sym (List·getD-eq-default t (pos 0) {n = i} h)
 
--- ---- the largest entry of each table, by size. None is the least word, so no product with an entry meets mult's clip
-
-within : (t : List ℤ) (b : ℕ) → every (λ z. leb (natAbs z) b) t ≡ true → (i : ℕ) → natAbs (t at i) ≤ b
+-- a bound on the size of every entry, by one test over the table: `within A 20480 refl i`, under `unfolding A every`
+pub within : (t : List ℤ) (b : ℕ) → every (λ z. leb (natAbs z) b) t ≡ true → (i : ℕ) → natAbs (t at i) ≤ b
 within t b e i =
     ⊎-elim
     (λ h. rw (← past-end t {i = i} h) (omega arith))
     (λ h. leb-true (natAbs (t at i)) b (every-at (λ z. leb (natAbs z) b) t i (pos 0) e h))
     (le-or-lt (length t) i)
-
-module _ (i : ℕ) where
-  pub A-size : natAbs (A at i) ≤ 20480
-  unfolding A every
-  A-size = within A 20480 refl i
-
-  pub B-size : natAbs (B at i) ≤ 2560
-  unfolding B every
-  B-size = within B 2560 refl i
-
-  pub MIC-size : natAbs (MIC at i) ≤ 32
-  unfolding MIC every
-  MIC-size = within MIC 32 refl i
-
-  pub MAC-size : natAbs (MAC at i) ≤ 31
-  unfolding MAC every
-  MAC-size = within MAC 31 refl i
-
-  pub INVA-size : natAbs (INVA at i) ≤ 31454
-  unfolding INVA every
-  INVA-size = within INVA 31454 refl i
-
-  pub DLB-size : natAbs (DLB at i) ≤ 32767
-  unfolding DLB every
-  DLB-size = within DLB 32767 refl i
-
-  pub QLB-size : natAbs (QLB at i) ≤ 32767
-  unfolding QLB every
-  QLB-size = within QLB 32767 refl i
-
-  pub H-size : natAbs (H at i) ≤ 8192
-  unfolding H every
-  H-size = within H 8192 refl i
-
-  pub NRFAC-size : natAbs (NRFAC at i) ≤ 29128
-  unfolding NRFAC every
-  NRFAC-size = within NRFAC 29128 refl i
-
-  pub FAC-size : natAbs (FAC at i) ≤ 32767
-  unfolding FAC every
-  FAC-size = within FAC 32767 refl i
 
 -- ---- the weighting filter
 
