@@ -9,3 +9,6 @@ outside:
 	outside/install python3 libgsm1
 	python3 outside/operations.py --compare crates/operations/stdout
 	python3 outside/operations.py --libgsm auto
+	python3 outside/compare.py --vectors outside/vectors
+	python3 outside/compare.py --libgsm auto
+	python3 outside/trials.py outside/vectors --compare

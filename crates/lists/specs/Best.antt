@@ -121,6 +121,11 @@ module _ (xs : List ℤ) where
       (λ h l. not-false _ (first-least _ _ 0 j (omega arith) l))
       (λ h l. absurd (omega arith))
 
+  -- whatever the elements are, the place is one of the list's, where the list has any
+  pub best-within : 0 < length xs → best xs .at < length xs
+  unfolding best
+  best-within l = by-cond (λ k. k < length xs) (ltZ (pos 0) (largest xs)) (λ h. rw h at (best-at h .0)) (λ h. l)
+
   best-is : (k : ℕ) (m : ℤ) → largest xs ≡ m → ltZ (pos 0) m ≡ true → k < length xs → ltZ (getD xs k (pos 0)) m ≡ false
       → ((j : ℕ) → j < k → ltZ (getD xs j (pos 0)) m ≡ true) → best xs ≡ record { at = k; sum = m }
   unfolding best

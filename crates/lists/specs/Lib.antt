@@ -6,3 +6,5 @@ pub mod First
 pub mod Best
 pub mod Parts
 pub mod Every
+pub mod Cut
+pub mod Lengths

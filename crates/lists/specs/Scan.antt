@@ -1,11 +1,13 @@
 -- For a loop that carries a state along a list and writes an output for each element, as a filter does.
 use mathlib.Core.Path.{_≡_, refl, ap}
 use mathlib.Core.List.{List, [], _∷_, _++_, append-nil, foldl}
+use mathlib.Core.Bool.{Bool, true}
 use Prim.Native.Nat.{ℕ, zero, suc, _+_, _≤_, _<_}
 use native.Mathlib.Numerals.{add-one}
 use native.Mathlib.Omega.{arith}
 use lib.ListN.{length, getD, set, take, drop, drop-of-length-le}
 use lib.Seq.{drop-cons, take-suc-set, take-all, append-snoc}
+use Rattle.lists.specs.Every.{every, every-cons}
 
 module _ {S A B : Type 0} (step : S → A → S × B) where
   -- the last state and the outputs, where each element in turn takes the state to the next one and gives an output
@@ -41,6 +43,18 @@ module _ {S A B : Type 0} (step : S → A → S × B) where
   run-at s [] i d z h = absurd (omega arith)
   run-at s (x ∷ xs) zero d z h = refl
   run-at s (x ∷ xs) (suc i) d z h = run-at (step s x .0) xs i d z (omega arith)
+
+  -- if elements that pass p keep Q of the state and give outputs that pass q, the last state has Q and each output passes q
+  pub run-keeps : (Q : S → Type 0) (p : A → Bool) (q : B → Bool)
+      → ((s : S) (x : A) → Q s → p x ≡ true → Q (step s x .0) × (q (step s x .1) ≡ true))
+      → (s : S) (xs : List A) → Q s → every p xs ≡ true → Q (run s xs .0) × (every q (run s xs .1) ≡ true)
+  unfolding run every
+  run-keeps Q p q k s [] h e = (h, refl)
+  run-keeps Q p q k s (x ∷ xs) h e =
+      let (e₀, e₁) = every-cons p x xs .0 e in
+      let (h₀, g₀) = k s x h e₀ in
+      let (h₁, g₁) = run-keeps Q p q k (step s x .0) xs h₀ e₁ in
+      (h₁, every-cons q (step s x .1) (run (step s x .0) xs .1) .1 (g₀, g₁))
 
   module _ (s₀ : S) (xs : List A) where
     -- the loop's invariant: what is written, and what is still to come from the state s, make up the whole run

@@ -3,7 +3,7 @@ use mathlib.Core.Path.{_≡_, refl, sym, ap, _∙_}
 use mathlib.Core.List.{List, [], _∷_, map, zipWith}
 use Prim.Native.Nat.{ℕ, zero, suc, _+_, _<_, min}
 use native.Mathlib.Omega.{arith}
-use lib.ListN.{length, getD, length-map, List·getD-map}
+use lib.ListN.{length, getD, replicate, length-map, List·getD-map}
 use lib.Seq.{ext-getD}
 
 module _ {A : Type 0} where
@@ -58,3 +58,11 @@ module _ {A B C : Type 0} (f : A → B → C) where
   zip-at (x ∷ xs) [] k a b z p q = absurd (omega arith)
   zip-at (x ∷ xs) (y ∷ ys) zero a b z p q = refl
   zip-at (x ∷ xs) (y ∷ ys) (suc k) a b z p q = zip-at xs ys k a b z (omega arith) (omega arith)
+
+-- one element against each of a list is a map
+pub zip-replicate : {A B C : Type 0} (f : A → B → C) (a : A) (n : ℕ) (ys : List B) → length ys ≡ n → zipWith f (replicate n a) ys ≡ map (f a) ys
+unfolding zipWith
+zip-replicate f a zero [] h = refl
+zip-replicate f a zero (y ∷ ys) h = absurd (omega arith)
+zip-replicate f a (suc n) [] h = refl
+zip-replicate f a (suc n) (y ∷ ys) h = rw (zip-replicate f a n ys (omega arith))

@@ -1,12 +1,15 @@
 -- 4.1: the arithmetic operations, on integers. A word has 16 bits and a long word 32, in two's complement: the widths w16 and w32, of
 -- which `bits` is 16 and 32 and `hbits` is 15 and 31. A width w holds the numbers from −2 ^ hbits w to 2 ^ hbits w − 1.
 use Prim.Native.Nat.{ℕ, suc, _*_, _-_, _/_, _%_, _^_, min}
-use lib.Dec.{leb}
+use mathlib.Core.Bool.{Bool, _&&_}
+use mathlib.Core.List.{List, map, zipWith, foldl}
+use lib.Dec.{leb, eqb}
 use lib.IntN.{ℤ, pos, negsuc, _+ℤ_, _-ℤ_, _*ℤ_, natAbs}
-use lib.Signed.{shrZ}
+use lib.Signed.{shrZ, leZ}
 use mir.Syntax.{Width, w16, w32}
 use mir.Val.{bits, hbits, toZ}
 use Rattle.lists.specs.First.{first}
+use Rattle.lists.specs.Best.{largest}
 
 -- "overflow control and saturation": z, or the end of the range that z has passed
 unfoldable pub clip : Width → ℤ → ℤ
@@ -18,9 +21,12 @@ unfoldable pub modulo : ℤ → ℕ → ℕ
 modulo (pos n) m = n % m
 modulo (negsuc n) m = m - suc (n % m)
 
--- the low bits of z, read as a number of width w. At w16 this is "var2 = L_var1: extract the 16 LSB bits"
+-- the low bits of z, read as a number of width w. At w16 it is "var2 = L_var1: extract the 16 LSB bits"
 unfoldable pub keep : Width → ℤ → ℤ
 keep w z = toZ w (modulo z (2 ^ bits w))
+
+abbrev pub low : ℤ → ℤ
+low = keep w16
 
 -- n bits to the left with zero fill, for n ≥ 0: the low bits are kept
 abbrev pub up : Width → ℤ → ℕ → ℤ
@@ -30,6 +36,15 @@ up w z n = keep w (z *ℤ pos (2 ^ n))
 abbrev pub down : ℤ → ℕ → ℤ
 down z n = shrZ z (2 ^ n)
 
+-- x >> n and, of a word, x << n, as 001 writes them, for n ≥ 0
+infixl 60 _>>_
+abbrev pub _>>_ : ℤ → ℕ → ℤ
+x >> n = down x n
+
+infixl 60 _<<_
+abbrev pub _<<_ : ℤ → ℕ → ℤ
+x << n = up w16 x n
+
 -- z << n and z >> n of a number of width w; "if n is less than 0, this operation becomes" the other one, by −n
 unfoldable pub shl : Width → ℤ → ℤ → ℤ
 shl w z (pos n) = up w z n
@@ -38,6 +53,13 @@ shl w z (negsuc n) = down z (suc n)
 unfoldable pub shr : Width → ℤ → ℤ → ℤ
 shr w z (pos n) = down z n
 shr w z (negsuc n) = up w z (suc n)
+
+abbrev pub is-zero : ℤ → Bool
+is-zero z = eqb (natAbs z) 0
+
+-- from least to most, both included
+abbrev pub within : ℤ → ℤ → ℤ → Bool
+within least most z = leZ least z && leZ z most
 
 -- a sum and a difference at width w
 unfoldable pub plus : Width → ℤ → ℤ → ℤ
@@ -82,3 +104,13 @@ L-sub = minus w32
 -- the left shifts needed to bring z to 1073741824 or above; where z is negative, to −1073741824 or below
 unfoldable pub norm : ℤ → ℤ
 norm z = pos (first (λ n. leb 1073741824 (natAbs z * 2 ^ n)) 31 0)
+
+-- ---- over a list
+
+-- the largest size: smax in 4.2.4, dmax in 4.2.11, xmax in 4.2.15
+unfoldable pub peak : List ℤ → ℤ
+peak xs = largest (map abs xs)
+
+-- the sum of the products of two lists, as far as the shorter goes, from a first value on
+unfoldable pub L-sum : ℤ → List ℤ → List ℤ → ℤ
+L-sum start a b = foldl L-add start (zipWith L-mult a b)

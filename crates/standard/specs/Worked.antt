@@ -1,15 +1,28 @@
--- 01, 'Worked by hand': the rows that 4.1's operations decide, as one statement over the definitions; and 01, 'Arithmetic', at the ends
--- of the range.
+-- 01, 'Worked by hand': all twelve rows as one statement over the definitions; and 01, 'Arithmetic', at the ends of the range.
 use mathlib.Core.Path.{_≡_, refl}
-use lib.IntN.{ℤ, pos, negsuc, _-ℤ_}
+use mathlib.Core.List.{List, [], _∷_}
+use lib.IntN.{ℤ, pos}
+use lib.ListN.{take, replicate}
 use mir.Syntax.{w16, w32}
-use Rattle.lists.specs.First.{first}
-use Rattle.standard.specs.Arithmetic.{clip, plus, minus, add, sub, L-add, L-sub, modulo, keep, shr, shl, mult, mult-r, abs, div, norm}
+use Rattle.lists.specs.Scan.{run}
+use Rattle.standard.specs.Arithmetic.{add, sub, L-add, L-sub, shr, shl, mult, mult-r, abs, div, norm}
 use Rattle.standard.specs.Tables.{neg}
+use Rattle.standard.specs.Frame.{words}
+use Rattle.standard.specs.Lpc.{scaled, rescaled}
+use Rattle.standard.specs.Rpe.{xmaxc, amplitude, xMp}
+use Rattle.standard.specs.Coder.{coded}
+use Rattle.standard.specs.Decoder.{Nr}
+use Rattle.standard.specs.Packed.{packed}
+use Rattle.standard.specs.House.{home-coder, home-decoder}
+use Rattle.standard.specs.Opened.{opened}
 
--- 4.2.4's scaling of one sample at a scale above 0, and its rescaling
-abbrev pub there-and-back : ℤ → ℤ → ℤ
-there-and-back scale x = shl w16 (mult-r x (shr w16 (pos 16384) (scale -ℤ pos 1))) scale
+-- 4.2.4's scaling and rescaling of one sample
+abbrev there-and-back : ℤ → ℤ → List ℤ
+there-and-back scale x = rescaled scale (scaled scale (x ∷ []))
+
+-- the lags that are used where these are received one after the other, from home
+abbrev pub lags-used : List ℤ → List ℤ
+lags-used received = run (λ nrp Ncr. let lag = Nr nrp Ncr in (lag, lag)) (home-decoder .nrp) received .1
 
 pub record Worked : Type 0 where
   pub mult-minus : mult (neg 1) (pos 16384) ≡ neg 1
@@ -22,11 +35,25 @@ pub record Worked : Type 0 where
   pub div-zero : div (pos 0) (pos 0) ≡ pos 0
   pub norm-one : norm (pos 1) ≡ pos 30
   pub norm-top : norm (pos 1073741824) ≡ pos 0
-  pub scaled : there-and-back (pos 4) (pos 32759) ≡ pos 32752
-  pub wrapped : there-and-back (pos 4) (pos 32760) ≡ neg 32768
+  pub kept : there-and-back (pos 4) (pos 32759) ≡ pos 32752 ∷ []
+  pub wrapped : there-and-back (pos 4) (pos 32760) ≡ neg 32768 ∷ []
+  pub maximum-31 : xmaxc (pos 31) ≡ pos 0
+  pub maximum-32 : xmaxc (pos 32) ≡ pos 1
+  pub maximum-511 : xmaxc (pos 511) ≡ pos 15
+  pub maximum-512 : xmaxc (pos 512) ≡ pos 16
+  pub maximum-32767 : xmaxc (pos 32767) ≡ pos 63
+  pub code-0 : amplitude (pos 0) ≡ record { exp = neg 4; mant = 7 }
+  pub code-2 : amplitude (pos 2) ≡ record { exp = neg 2; mant = 3 }
+  pub code-15 : amplitude (pos 15) ≡ record { exp = pos 0; mant = 7 }
+  pub code-16 : amplitude (pos 16) ≡ record { exp = pos 1; mant = 0 }
+  pub code-63 : amplitude (pos 63) ≡ record { exp = pos 6; mant = 7 }
+  pub quietest : xMp (amplitude (pos 0)) (pos 4 ∷ pos 3 ∷ []) ≡ pos 4 ∷ neg 4 ∷ []
+  pub loudest : xMp (amplitude (pos 63)) (pos 7 ∷ pos 0 ∷ []) ≡ pos 28671 ∷ neg 28671 ∷ []
+  pub lags : lags-used (pos 39 ∷ pos 40 ∷ pos 121 ∷ pos 120 ∷ []) ≡ pos 40 ∷ pos 40 ∷ pos 40 ∷ pos 120 ∷ []
+  pub zero-packed : take 5 (packed (words (coded home-coder (replicate 160 (pos 0)) .1 .frame))) ≡ 32 ∷ 72 ∷ 23 ∷ 214 ∷ 132 ∷ []
 
 pub worked : Worked
-unfolding clip modulo keep shr shl mult mult-r div first norm
+unfolding opened
 worked = record {
   mult-minus = refl;
   mult-r-minus = refl;
@@ -38,8 +65,22 @@ worked = record {
   div-zero = refl;
   norm-one = refl;
   norm-top = refl;
-  scaled = refl;
+  kept = refl;
   wrapped = refl;
+  maximum-31 = refl;
+  maximum-32 = refl;
+  maximum-511 = refl;
+  maximum-512 = refl;
+  maximum-32767 = refl;
+  code-0 = refl;
+  code-2 = refl;
+  code-15 = refl;
+  code-16 = refl;
+  code-63 = refl;
+  quietest = refl;
+  loudest = refl;
+  lags = refl;
+  zero-packed = refl;
 }
 
 pub record Ends : Type 0 where
@@ -55,7 +96,7 @@ pub record Ends : Type 0 where
   pub shl-right : shl w32 (neg 3) (neg 1) ≡ neg 2
 
 pub ends : Ends
-unfolding clip modulo keep plus minus abs mult shr shl
+unfolding opened
 ends = record {
   add-high = refl;
   sub-low = refl;

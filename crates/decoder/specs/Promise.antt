@@ -1,0 +1,45 @@
+-- What decode promises: its answer and the samples it leaves, read as 01's, are those of the definition.
+use Prim.Native.Nat.{ℕ}
+use mathlib.Core.Path.{_≡_, sym, ap, _∙_}
+use mathlib.Core.List.{List}
+use lib.IntN.{ℤ}
+use Rattle.decoder.specs.declared.Decoder.{Decoder}
+use Rattle.decoder.specs.declared.Decoded.{Decoded}
+use Rattle.standard.specs.Decoder as standard
+use Rattle.standard.specs.Answers as answers
+
+-- what the state stands for
+unfoldable pub memory : Decoder → standard.Decoder
+memory d = record { drp = d .drp; nrp = d .nrp; LARpp = d .larpp; v = d .v; msr = d .msr }
+
+-- ---- the promise
+
+-- of a state, the codewords and the samples lent, the answer, and the samples left
+pub record Decodes (d : Decoder) (codewords lent : List ℤ) (a : Decoded) (left : List ℤ) : Type 0 where
+  pub number : a .number ≡ answers.decode (memory d) codewords lent .number
+  pub state : memory (a .state) ≡ answers.decode (memory d) codewords lent .state
+  pub samples : left ≡ answers.decode (memory d) codewords lent .samples
+
+-- ---- it determines the outcome: no two states stand for the same
+
+abbrev decoder-of : standard.Decoder → Decoder
+decoder-of m = record { drp = m .drp; nrp = m .nrp; larpp = m .LARpp; v = m .v; msr = m .msr }
+
+same-state : (d e : Decoder) → memory d ≡ memory e → d ≡ e
+unfolding memory
+same-state d e p = ap decoder-of p
+
+abbrev decoded : ℕ → Decoder → Decoded
+decoded number state = record { number = number; state = state }
+
+same-answer : {a b : Decoded} → a .number ≡ b .number → a .state ≡ b .state → a ≡ b
+same-answer {a} {b} n s =
+    let parts : decoded (a .number) (a .state) ≡ decoded (b .number) (b .state) = cc (n, s) in
+    parts
+
+-- any two outcomes that satisfy the promise are equal
+pub one-outcome : (d : Decoder) (codewords lent : List ℤ) (a b : Decoded) (l r : List ℤ)
+    → Decodes d codewords lent a l → Decodes d codewords lent b r → (a ≡ b) × (l ≡ r)
+one-outcome d codewords lent a b l r p q =
+    let state = same-state (a .state) (b .state) (p .state ∙ sym (q .state)) in
+    (same-answer (p .number ∙ sym (q .number)) state, p .samples ∙ sym (q .samples))

@@ -1,0 +1,120 @@
+-- What encode promises: its answer and the codewords it leaves, read as 01's, are those of the definition.
+use Prim.Native.Nat.{ℕ}
+use mathlib.Core.Path.{_≡_, refl, sym, ap, _∙_}
+use mathlib.Core.Option.{Option, none, some}
+use mathlib.Core.List.{List, [], _∷_}
+use lib.IntN.{ℤ}
+use lib.ListN.{getD}
+use Rattle.encoder.specs.declared.Encoder.{Encoder}
+use Rattle.encoder.specs.declared.Ending.{Ending}
+use Rattle.encoder.specs.declared.Ending.the-variants as Ending-of
+use Rattle.encoder.specs.declared.Mark.{Mark}
+use Rattle.encoder.specs.declared.Mark.the-variants as Mark-of
+use Rattle.encoder.specs.declared.Marks.{Marks}
+use Rattle.encoder.specs.declared.Encoded.{Encoded}
+use Rattle.standard.specs.Lpc as lpc
+use Rattle.standard.specs.Coder.{Coder}
+use Rattle.standard.specs.House as house
+use Rattle.standard.specs.Answers as answers
+
+-- ---- what the types stand for
+
+-- the state
+unfoldable pub coder : Encoder → Coder
+coder e = record { z1 = e .z1; L-z2 = e .«l_z2»; mp = e .mp; LARpp = e .larpp; u = e .u; dp = e .dp }
+
+-- each case of the ending
+unfoldable pub ending : Ending → Option lpc.Ending
+ending Ending-of.Absent = none
+ending Ending-of.Silent = some lpc.silent
+ending (Ending-of.Stopped n) = some (lpc.stopped n)
+ending Ending-of.Complete = some lpc.complete
+
+-- each case of a mark
+unfoldable pub mark : Mark → Option house.Mark
+mark Mark-of.Absent = none
+mark Mark-of.Rule = some house.rule
+mark Mark-of.Found = some house.found
+
+unfoldable pub marks : Marks → List (Option house.Mark)
+marks m = mark (m .first) ∷ mark (m .second) ∷ mark (m .third) ∷ mark (m .fourth) ∷ []
+
+-- ---- the promise
+
+-- of a state, the samples and the codewords lent, the answer, and the codewords left
+pub record Encodes (e : Encoder) (samples lent : List ℤ) (a : Encoded) (left : List ℤ) : Type 0 where
+  pub number : a .number ≡ answers.encode (coder e) samples lent .number
+  pub state : coder (a .state) ≡ answers.encode (coder e) samples lent .state
+  pub ending : ending (a .ending) ≡ answers.encode (coder e) samples lent .ending
+  pub marks : marks (a .marks) ≡ answers.encode (coder e) samples lent .marks
+  pub codewords : left ≡ answers.encode (coder e) samples lent .codewords
+
+-- ---- it determines the outcome: no two values of a type stand for the same
+
+abbrev encoder-of : Coder → Encoder
+encoder-of c = record { z1 = c .z1; «l_z2» = c .L-z2; mp = c .mp; larpp = c .LARpp; u = c .u; dp = c .dp }
+
+same-state : (e f : Encoder) → coder e ≡ coder f → e ≡ f
+unfolding coder
+same-state e f p = ap encoder-of p
+
+abbrev ending-of : Option lpc.Ending → Ending
+ending-of none = Ending-of.Absent
+ending-of (some lpc.silent) = Ending-of.Silent
+ending-of (some (lpc.stopped n)) = Ending-of.Stopped n
+ending-of (some lpc.complete) = Ending-of.Complete
+
+ending-back : (e : Ending) → ending-of (ending e) ≡ e
+unfolding ending
+ending-back Ending-of.Absent = refl
+ending-back Ending-of.Silent = refl
+ending-back (Ending-of.Stopped n) = refl
+ending-back Ending-of.Complete = refl
+
+same-ending : (e f : Ending) → ending e ≡ ending f → e ≡ f
+same-ending e f p = sym (ending-back e) ∙ ap ending-of p ∙ ending-back f
+
+abbrev mark-of : Option house.Mark → Mark
+mark-of none = Mark-of.Absent
+mark-of (some house.rule) = Mark-of.Rule
+mark-of (some house.found) = Mark-of.Found
+
+abbrev marks-of : List (Option house.Mark) → Marks
+marks-of ms =
+    record {
+      first = mark-of (getD ms 0 none);
+      second = mark-of (getD ms 1 none);
+      third = mark-of (getD ms 2 none);
+      fourth = mark-of (getD ms 3 none);
+    }
+
+mark-back : (m : Mark) → mark-of (mark m) ≡ m
+unfolding mark
+mark-back Mark-of.Absent = refl
+mark-back Mark-of.Rule = refl
+mark-back Mark-of.Found = refl
+
+marks-back : (m : Marks) → marks-of (marks m) ≡ m
+unfolding marks
+marks-back m = rw (mark-back (m .first), mark-back (m .second), mark-back (m .third), mark-back (m .fourth))
+
+same-marks : (m n : Marks) → marks m ≡ marks n → m ≡ n
+same-marks m n p = sym (marks-back m) ∙ ap marks-of p ∙ marks-back n
+
+abbrev encoded : ℕ → Encoder → Ending → Marks → Encoded
+encoded number state ending marks = record { number = number; state = state; ending = ending; marks = marks }
+
+same-answer : {a b : Encoded} → a .number ≡ b .number → a .state ≡ b .state → a .ending ≡ b .ending → a .marks ≡ b .marks → a ≡ b
+same-answer {a} {b} n s e m =
+    let parts : encoded (a .number) (a .state) (a .ending) (a .marks) ≡ encoded (b .number) (b .state) (b .ending) (b .marks) = cc (n, s, e, m) in
+    parts
+
+-- any two outcomes that satisfy the promise are equal
+pub one-outcome : (e : Encoder) (samples lent : List ℤ) (a b : Encoded) (l r : List ℤ)
+    → Encodes e samples lent a l → Encodes e samples lent b r → (a ≡ b) × (l ≡ r)
+one-outcome e samples lent a b l r p q =
+    let state = same-state (a .state) (b .state) (p .state ∙ sym (q .state)) in
+    let ending = same-ending (a .ending) (b .ending) (p .ending ∙ sym (q .ending)) in
+    let marks = same-marks (a .marks) (b .marks) (p .marks ∙ sym (q .marks)) in
+    let number = p .number ∙ sym (q .number) in
+    (same-answer number state ending marks, p .codewords ∙ sym (q .codewords))

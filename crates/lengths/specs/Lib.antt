@@ -1,0 +1,5 @@
+pub mod Analysis
+pub mod Subframes
+pub mod Decoding
+pub mod Frames
+pub mod Calls

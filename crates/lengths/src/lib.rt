@@ -1,0 +1,1 @@
+// Laws that every list of clause 4 has its length; no code.

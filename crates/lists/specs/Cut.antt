@@ -1,0 +1,52 @@
+-- A list cut into parts that follow one another.
+use mathlib.Core.Path.{_≡_, refl}
+use mathlib.Core.List.{List, [], _∷_, _++_, append-assoc, append-nil, flatten, foldr, map}
+use Prim.Native.Nat.{ℕ, _+_, _≤_}
+use native.Mathlib.Omega.{arith}
+use lib.ListN.{length, take, drop, take-append-drop, length-append, length-drop, drop-of-length-le}
+use lib.Seq.{take-append-seam, drop-append-seam, drop-drop, length-take-le}
+
+-- what the lengths come to; at a literal list it computes
+abbrev pub sum : List ℕ → ℕ
+sum = foldr _+_ 0
+
+module _ {A : Type 0} where
+  -- the parts of xs, of the lengths ns, from the front
+  unfoldable pub cut : List ℕ → List A → List (List A)
+  cut [] xs = []
+  cut (n ∷ ns) xs = take n xs ∷ cut ns (drop n xs)
+
+  -- there are as many parts as lengths were asked for
+  pub cut-count : (ns : List ℕ) (xs : List A) → length (cut ns xs) ≡ length ns
+  unfolding cut
+  cut-count [] xs = refl
+  cut-count (n ∷ ns) xs = rw (cut-count ns (drop n xs))
+
+  -- where there is enough to cut, each part has the length that was asked for
+  pub cut-lengths : (ns : List ℕ) (xs : List A) → sum ns ≤ length xs → map length (cut ns xs) ≡ ns
+  unfolding cut
+  cut-lengths [] xs h = refl
+  cut-lengths (n ∷ ns) xs h =
+      rw (length-take-le n xs (omega arith), cut-lengths ns (drop n xs) (rw length-drop (omega arith)))
+
+  -- the parts joined, and what is left over, are the list again
+  pub cut-rest : (ns : List ℕ) (xs : List A) → flatten (cut ns xs) ++ drop (sum ns) xs ≡ xs
+  unfolding cut flatten
+  cut-rest [] xs = refl
+  cut-rest (n ∷ ns) xs = rw (append-assoc, ← drop-drop (sum ns) n xs, cut-rest ns (drop n xs), take-append-drop)
+
+  -- where nothing is left over, the parts joined are the list
+  pub cut-whole : (ns : List ℕ) (xs : List A) → length xs ≤ sum ns → flatten (cut ns xs) ≡ xs
+  cut-whole ns xs h = rw (drop-of-length-le xs h, append-nil) at (cut-rest ns xs)
+
+  -- parts joined, with anything after them, are cut into themselves
+  pub cut-joined : (ps : List (List A)) (q : List A) → cut (map length ps) (flatten ps ++ q) ≡ ps
+  unfolding cut flatten
+  cut-joined [] q = refl
+  cut-joined (p ∷ ps) q = rw (append-assoc, take-append-seam, drop-append-seam, cut-joined ps q)
+
+  -- parts joined are as long as they are together
+  pub flatten-length : (ps : List (List A)) → length (flatten ps) ≡ sum (map length ps)
+  unfolding flatten
+  flatten-length [] = refl
+  flatten-length (p ∷ ps) = rw (length-append, flatten-length ps)

@@ -1,0 +1,80 @@
+-- A number as its bits, the lowest first, there and back.
+use mathlib.Core.Path.{_≡_, refl}
+use mathlib.Core.Bool.{Bool, true, and-eq-true-iff}
+use mathlib.Core.List.{List, [], _∷_}
+use Prim.Native.Nat.{ℕ, zero, suc, _+_, _*_, _/_, _%_, _^_, _<_}
+use native.Mathlib.Nat.{pow-succ'}
+use native.Mathlib.Omega.{arith}
+use lib.Dec.{ltb}
+use lib.ListN.{length}
+use borrow.Author.Tests.{ltb-true, lt-ltb}
+use Rattle.lists.specs.Every.{every}
+use Rattle.standard.specs.Packed.{bits, value}
+
+-- below 2
+abbrev pub is-bit : ℕ → Bool
+is-bit b = ltb b 2
+
+-- each is below 2
+abbrev pub are-bits : List ℕ → Bool
+are-bits = every is-bit
+
+-- there are as many bits as the width says
+pub bits-length : (w n : ℕ) → length (bits w n) ≡ w
+unfolding bits
+bits-length zero n = refl
+bits-length (suc w) n = rw (bits-length w (n / 2))
+
+-- and they are bits
+pub bits-are : (w n : ℕ) → are-bits (bits w n) ≡ true
+unfolding bits every
+bits-are zero n = refl
+bits-are (suc w) n = rw (lt-ltb (n % 2) 2 (omega arith)) (bits-are w (n / 2))
+
+-- a number that fits the width has its value back
+pub value-bits : (w n : ℕ) → n < 2 ^ w → value (bits w n) ≡ n
+unfolding bits value
+value-bits zero n h = omega arith
+value-bits (suc w) n h = rw (value-bits w (n / 2) (omega arith)) (omega arith)
+
+-- bits have a value that fits their number
+pub value-below : (b : List ℕ) → are-bits b ≡ true → value b < 2 ^ length b
+unfolding value every
+value-below [] e = omega arith
+value-below (x ∷ xs) e =
+    let t = and-eq-true-iff (ltb x 2) (are-bits xs) .0 e in
+    omega (arith, ltb-true x 2 (t .0), value-below xs (t .1), pow-succ' 2 (length xs))
+
+-- and are the bits of that value
+pub bits-value : (b : List ℕ) → are-bits b ≡ true → bits (length b) (value b) ≡ b
+unfolding bits value every
+bits-value [] e = refl
+bits-value (x ∷ xs) e =
+    let t = and-eq-true-iff (ltb x 2) (are-bits xs) .0 e in
+    let l = ltb-true x 2 (t .0) in
+    let low : (x + 2 * value xs) % 2 ≡ x = omega arith in
+    let high : (x + 2 * value xs) / 2 ≡ value xs = omega arith in
+    rw (low, high, bits-value xs (t .1))
+
+-- a way to write a number in w bits and to read it back: the lowest bit first, the highest first, or any other
+pub record Order : Type 0 where
+  pub write : ℕ → ℕ → List ℕ
+  pub read : List ℕ → ℕ
+  pub write-length : (w n : ℕ) → length (write w n) ≡ w
+  pub write-bits : (w n : ℕ) → are-bits (write w n) ≡ true
+  pub read-write : (w n : ℕ) → n < 2 ^ w → read (write w n) ≡ n
+  pub read-below : (b : List ℕ) → are-bits b ≡ true → read b < 2 ^ length b
+  pub write-read : (b : List ℕ) → are-bits b ≡ true → write (length b) (read b) ≡ b
+
+-- the lowest bit first
+abbrev pub low-first : Order
+low-first =
+    record {
+      write = bits;
+      read = value;
+      write-length = bits-length;
+      write-bits = bits-are;
+      read-write = value-bits;
+      read-below = value-below;
+      write-read = bits-value;
+    }

@@ -1,0 +1,25 @@
+-- What pack and unpack promise: the number and what is left in the lent buffer are those of the definition.
+use Prim.Native.Nat.{ℕ}
+use mathlib.Core.Path.{_≡_, sym, _∙_}
+use mathlib.Core.List.{List}
+use lib.IntN.{ℤ}
+use Rattle.standard.specs.Answers as answers
+
+-- of the codewords and the bytes lent, the number answered, and the bytes left
+pub record Packs (codewords : List ℤ) (lent : List ℕ) (n : ℕ) (left : List ℕ) : Type 0 where
+  pub number : n ≡ answers.pack codewords lent .number
+  pub bytes : left ≡ answers.pack codewords lent .bytes
+
+-- of the bytes and the codewords lent, the number answered, and the codewords left
+pub record Unpacks (bytes : List ℕ) (lent : List ℤ) (n : ℕ) (left : List ℤ) : Type 0 where
+  pub number : n ≡ answers.unpack bytes lent .number
+  pub codewords : left ≡ answers.unpack bytes lent .codewords
+
+-- any two outcomes that satisfy a promise are equal
+pub one-packing : (codewords : List ℤ) (lent : List ℕ) (m n : ℕ) (l r : List ℕ)
+    → Packs codewords lent m l → Packs codewords lent n r → (m ≡ n) × (l ≡ r)
+one-packing codewords lent m n l r p q = (p .number ∙ sym (q .number), p .bytes ∙ sym (q .bytes))
+
+pub one-unpacking : (bytes : List ℕ) (lent : List ℤ) (m n : ℕ) (l r : List ℤ)
+    → Unpacks bytes lent m l → Unpacks bytes lent n r → (m ≡ n) × (l ≡ r)
+one-unpacking bytes lent m n l r p q = (p .number ∙ sym (q .number), p .codewords ∙ sym (q .codewords))

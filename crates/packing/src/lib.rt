@@ -1,0 +1,1 @@
+// Laws of the packed frame, there and back; no code.

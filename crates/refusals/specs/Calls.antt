@@ -1,0 +1,91 @@
+-- 01, 'Refusal numbers', of the four calls: 0 exactly when nothing is wrong; and what a refusal hands back.
+use mathlib.Core.Path.{_≡_}
+use mathlib.Core.Bool.{true}
+use mathlib.Core.Option.{none}
+use mathlib.Core.List.{List}
+use Prim.Native.Nat.{ℕ, suc}
+use lib.Dec.{eqb}
+use lib.IntN.{ℤ}
+use lib.ListN.{length, replicate}
+use Rattle.lists.specs.Every.{every}
+use Rattle.standard.specs.Coder.{Coder}
+use Rattle.standard.specs.Decoder.{Decoder}
+use Rattle.standard.specs.Packed.{packed, unpacked, spare}
+use Rattle.standard.specs.House.{refusal, sound-coder, sound-decoder, fits, encode-refusal, decode-refusal, pack-refusal, unpack-refusal}
+use Rattle.standard.specs.Answers.{answer, encode, decode, pack, unpack}
+use Rattle.refusals.specs.Rows.{three-right}
+
+module _ (c : Coder) (s w : List ℤ) where
+  -- encode refuses nothing else than wrong lengths and an unsound state
+  pub encode-allows : length s ≡ 160 → length w ≡ 76 → sound-coder c ≡ true → encode-refusal c s w ≡ 0
+  unfolding encode-refusal refusal
+  encode-allows h g e = rw (h, g, e)
+
+  -- what it allows has none of these
+  pub encode-allowed : encode-refusal c s w ≡ 0 → (length s ≡ 160) × (length w ≡ 76) × (sound-coder c ≡ true)
+  unfolding encode-refusal
+  encode-allowed = three-right 160 76 0 1 2 s w (sound-coder c)
+
+  -- refused: the state as handed in, no ending, no marks, the codewords that were there
+  pub encode-refused : (n : ℕ) → encode-refusal c s w ≡ suc n
+      → encode c s w ≡ record { number = suc n; state = c; ending = none; marks = replicate 4 none; codewords = w }
+  unfolding encode answer
+  encode-refused n e = rw e
+
+module _ (m : Decoder) (w s : List ℤ) where
+  -- decode refuses nothing else than wrong lengths and an unsound state
+  pub decode-allows : length s ≡ 160 → length w ≡ 76 → sound-decoder m ≡ true → decode-refusal m w s ≡ 0
+  unfolding decode-refusal refusal
+  decode-allows h g e = rw (h, g, e)
+
+  -- what it allows has none of these
+  pub decode-allowed : decode-refusal m w s ≡ 0 → (length s ≡ 160) × (length w ≡ 76) × (sound-decoder m ≡ true)
+  unfolding decode-refusal
+  decode-allowed = three-right 160 76 0 1 2 s w (sound-decoder m)
+
+  -- refused: the state as handed in, the samples that were there
+  pub decode-refused : (n : ℕ) → decode-refusal m w s ≡ suc n → decode m w s ≡ record { number = suc n; state = m; samples = s }
+  unfolding decode answer
+  decode-refused n e = rw e
+
+module _ (c : List ℤ) (b : List ℕ) where
+  -- pack refuses nothing else than wrong lengths and codewords that do not fit
+  pub pack-allows : length c ≡ 76 → length b ≡ 33 → fits c ≡ true → pack-refusal c b ≡ 0
+  unfolding pack-refusal refusal
+  pack-allows h g e = rw (h, g, e)
+
+  -- what it allows has none of these
+  pub pack-allowed : pack-refusal c b ≡ 0 → (length c ≡ 76) × (length b ≡ 33) × (fits c ≡ true)
+  unfolding pack-refusal
+  pack-allowed = three-right 76 33 1 3 4 c b (fits c)
+
+  -- and is packed
+  pub pack-done : pack-refusal c b ≡ 0 → pack c b ≡ record { number = 0; bytes = packed c }
+  unfolding pack answer
+  pack-done e = rw e
+
+  -- refused: the bytes that were there
+  pub pack-refused : (n : ℕ) → pack-refusal c b ≡ suc n → pack c b ≡ record { number = suc n; bytes = b }
+  unfolding pack answer
+  pack-refused n e = rw e
+
+module _ (b : List ℕ) (w : List ℤ) where
+  -- unpack refuses nothing else than wrong lengths and spare bits that are not 0
+  pub unpack-allows : length w ≡ 76 → length b ≡ 33 → every (eqb 0) (spare b) ≡ true → unpack-refusal b w ≡ 0
+  unfolding unpack-refusal refusal
+  unpack-allows h g e = rw (h, g, e)
+
+  -- what it allows has none of these
+  pub unpack-allowed : unpack-refusal b w ≡ 0 → (length w ≡ 76) × (length b ≡ 33) × (every (eqb 0) (spare b) ≡ true)
+  unfolding unpack-refusal
+  unpack-allowed = three-right 76 33 1 3 5 w b (every (eqb 0) (spare b))
+
+  -- and is unpacked
+  pub unpack-done : unpack-refusal b w ≡ 0 → unpack b w ≡ record { number = 0; codewords = unpacked b }
+  unfolding unpack answer
+  unpack-done e = rw e
+
+  -- refused: the codewords that were there
+  pub unpack-refused : (n : ℕ) → unpack-refusal b w ≡ suc n → unpack b w ≡ record { number = suc n; codewords = w }
+  unfolding unpack answer
+  unpack-refused n e = rw e

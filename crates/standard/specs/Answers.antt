@@ -1,0 +1,65 @@
+-- 01, 'Refusal numbers': what each of the four calls answers and what it leaves in the buffer that it was lent, by its number.
+use Prim.Native.Nat.{ℕ, zero, suc}
+use mathlib.Core.Option.{Option, none, some}
+use mathlib.Core.List.{List, map}
+use lib.IntN.{ℤ}
+use lib.ListN.{replicate}
+use Rattle.standard.specs.Frame.{words, received}
+use Rattle.standard.specs.Lpc.{Ending}
+use Rattle.standard.specs.Coder.{Coder, coded}
+use Rattle.standard.specs.Decoder.{Decoder, decoded}
+use Rattle.standard.specs.Packed.{packed, unpacked}
+use Rattle.standard.specs.House.{Mark, mark, encode-refusal, decode-refusal, pack-refusal, unpack-refusal}
+
+-- 0 means done; any other number is a refusal
+unfoldable pub answer : {A : Type 0} → ℕ → A → (ℕ → A) → A
+answer zero done refused = done
+answer (suc n) done refused = refused (suc n)
+
+pub record Encoded : Type 0 where
+  pub number : ℕ
+  pub state : Coder
+  pub ending : Option Ending
+  pub marks : List (Option Mark)
+  pub codewords : List ℤ
+
+-- refused: the state as handed in, no recursion ending, no lag marks, the codewords that were there
+unfoldable pub encode : Coder → List ℤ → List ℤ → Encoded
+encode c samples codewords =
+    let t = coded c samples in
+    let f = t .1 .frame in
+    answer (encode-refusal c samples codewords)
+    (record { number = 0; state = t .0; ending = some (t .1 .ending); marks = map (λ s. some (mark s)) (f .subframes); codewords = words f })
+    (λ n. record { number = n; state = c; ending = none; marks = replicate 4 none; codewords = codewords })
+
+pub record Decoded : Type 0 where
+  pub number : ℕ
+  pub state : Decoder
+  pub samples : List ℤ
+
+unfoldable pub decode : Decoder → List ℤ → List ℤ → Decoded
+decode m codewords samples =
+    let t = decoded m (received codewords) in
+    answer (decode-refusal m codewords samples)
+    (record { number = 0; state = t .0; samples = t .1 })
+    (λ n. record { number = n; state = m; samples = samples })
+
+pub record Packed : Type 0 where
+  pub number : ℕ
+  pub bytes : List ℕ
+
+unfoldable pub pack : List ℤ → List ℕ → Packed
+pack codewords bytes =
+    answer (pack-refusal codewords bytes)
+    (record { number = 0; bytes = packed codewords })
+    (λ n. record { number = n; bytes = bytes })
+
+pub record Unpacked : Type 0 where
+  pub number : ℕ
+  pub codewords : List ℤ
+
+unfoldable pub unpack : List ℕ → List ℤ → Unpacked
+unpack bytes codewords =
+    answer (unpack-refusal bytes codewords)
+    (record { number = 0; codewords = unpacked bytes })
+    (λ n. record { number = n; codewords = codewords })

@@ -1,0 +1,80 @@
+-- 01's own rules: home, soundness, the lag mark, the refusal numbers.
+use Prim.Native.Nat.{ℕ, _^_}
+use mathlib.Core.Bool.{Bool, false, cond, not, _&&_}
+use mathlib.Core.List.{List, [], _∷_, zipWith}
+use lib.IntN.{ℤ, pos, negsuc, _-ℤ_, _*ℤ_, natAbs}
+use lib.ListN.{length, replicate}
+use lib.Dec.{eqb, ltb}
+use Rattle.lists.specs.Every.{every}
+use Rattle.standard.specs.Arithmetic.{is-zero, within}
+use Rattle.standard.specs.Tables.{neg}
+use Rattle.standard.specs.Frame.{Subframe, widths}
+use Rattle.standard.specs.Coder.{Coder}
+use Rattle.standard.specs.Decoder.{Decoder}
+use Rattle.standard.specs.Packed.{spare}
+
+-- ---- 'Numbers handed over': home
+
+unfoldable pub home-coder : Coder
+home-coder =
+    record {
+      z1 = pos 0;
+      L-z2 = pos 0;
+      mp = pos 0;
+      LARpp = replicate 8 (pos 0);
+      u = replicate 8 (pos 0);
+      dp = replicate 120 (pos 0);
+    }
+
+unfoldable pub home-decoder : Decoder
+home-decoder = record { drp = replicate 120 (pos 0); nrp = pos 40; LARpp = replicate 8 (pos 0); v = replicate 8 (pos 0); msr = pos 0 }
+
+-- ---- 'Refusal numbers': soundness
+
+unfoldable pub sound-coder : Coder → Bool
+sound-coder c =
+    within (neg 16384) (pos 16380) (c .z1) && within (neg 536740337) (pos 536871409) (c .L-z2 -ℤ pos 32768 *ℤ c .z1)
+
+unfoldable pub sound-decoder : Decoder → Bool
+sound-decoder m = within (pos 40) (pos 120) (m .nrp)
+
+-- ---- 'The steps': the lag mark
+
+pub data Mark : Type 0 where
+  rule : Mark
+  found : Mark
+
+-- "rule" when the lag is 40 with gain code 0, else "found"
+unfoldable pub mark : Subframe → Mark
+mark f = cond (eqb (natAbs (f .Nc)) 40 && is-zero (f .bc)) rule found
+
+-- ---- 'Refusal numbers': the table. Rows of what is wrong and its number
+
+-- "Of several that apply, the lowest is given"; 0 means done
+unfoldable pub refusal : List (Bool × ℕ) → ℕ
+refusal [] = 0
+refusal ((wrong, n) ∷ rows) = cond wrong n (refusal rows)
+
+abbrev pub not-of : {A : Type 0} → ℕ → List A → Bool
+not-of n xs = not (eqb (length xs) n)
+
+-- a codeword that fits its field
+unfoldable pub fit : ℕ → ℤ → Bool
+fit width (pos n) = ltb n (2 ^ width)
+fit width (negsuc n) = false
+
+unfoldable pub fits : List ℤ → Bool
+fits c = every (λ b. b) (zipWith fit widths c)
+
+unfoldable pub encode-refusal : Coder → List ℤ → List ℤ → ℕ
+encode-refusal c samples codewords = refusal ((not-of 160 samples, 1) ∷ (not-of 76 codewords, 2) ∷ (not (sound-coder c), 3) ∷ [])
+
+unfoldable pub decode-refusal : Decoder → List ℤ → List ℤ → ℕ
+decode-refusal m codewords samples = refusal ((not-of 160 samples, 1) ∷ (not-of 76 codewords, 2) ∷ (not (sound-decoder m), 3) ∷ [])
+
+unfoldable pub pack-refusal : List ℤ → List ℕ → ℕ
+pack-refusal codewords bytes = refusal ((not-of 76 codewords, 2) ∷ (not-of 33 bytes, 4) ∷ (not (fits codewords), 5) ∷ [])
+
+unfoldable pub unpack-refusal : List ℕ → List ℤ → ℕ
+unpack-refusal bytes codewords =
+    refusal ((not-of 76 codewords, 2) ∷ (not-of 33 bytes, 4) ∷ (not (every (eqb 0) (spare bytes)), 6) ∷ [])

@@ -1,0 +1,101 @@
+-- 01, 'The lister and its lines': the text, in bytes, that is printed of the bytes read.
+use Prim.Native.Nat.{ℕ, zero, suc, _+_, _*_, _/_, _%_, _^_, min}
+use Prim.Native.Char.{code}
+use Prim.Native.String.{String, [] as end, _∷_ as _then_}
+use mathlib.Core.Bool.{cond}
+use mathlib.Core.List.{List, [], _∷_, _++_, map, flatten}
+use lib.IntN.{ℤ, natAbs}
+use lib.ListN.{length, replicate}
+use lib.Dec.{ltb}
+use mir.Syntax.{w16}
+use mir.Val.{toZ}
+use Rattle.lists.specs.First.{first}
+use Rattle.lists.specs.Scan.{run}
+use Rattle.lists.specs.Cut.{cut}
+use Rattle.standard.specs.Frame.{Subframe, sub-words}
+use Rattle.standard.specs.Lpc.{Ending, silent, stopped, complete}
+use Rattle.standard.specs.Coder.{Coded, coded}
+use Rattle.standard.specs.House.{home-coder, Mark, rule, found, mark}
+
+-- ---- fields
+
+-- the bytes of a text
+unfoldable pub text : String → List ℕ
+text end = []
+text (c then s) = code c ∷ text s
+
+-- the last k decimal digits of n
+unfoldable pub digits : ℕ → ℕ → List ℕ
+digits zero n = []
+digits (suc k) n = digits k (n / 10) ++ ((48 + n % 10) ∷ [])
+
+-- n in as many digits as it needs, at least one
+unfoldable pub decimal : ℕ → List ℕ
+decimal n = digits (first (λ k. ltb n (10 ^ k)) n 1) n
+
+unfoldable pub word : ℤ → List ℕ
+word c = decimal (natAbs c)
+
+unfoldable pub ending-text : Ending → List ℕ
+ending-text silent = text "silent"
+ending-text (stopped n) = text "stop" ++ decimal n
+ending-text complete = text "complete"
+
+unfoldable pub mark-text : Mark → List ℕ
+mark-text rule = text "rule"
+mark-text found = text "found"
+
+-- ---- lines
+
+-- "Fields are parted by tabs, one record a line"
+unfoldable pub line : List (List ℕ) → List ℕ
+line [] = 10 ∷ []
+line (f ∷ []) = f ++ (10 ∷ [])
+line (f ∷ g ∷ fs) = f ++ 9 ∷ line (g ∷ fs)
+
+unfoldable pub header : List ℕ
+header = line (text "RPELTP" ∷ decimal 1 ∷ [])
+
+unfoldable pub F-line : ℕ → Coded → List ℕ
+F-line frame c = line (text "F" ∷ decimal frame ∷ ending-text (c .ending) ∷ map word (c .frame .LARc))
+
+unfoldable pub S-line : ℕ → ℕ → Subframe → List ℕ
+S-line frame n s = line (text "S" ∷ decimal frame ∷ decimal n ∷ mark-text (mark s) ∷ map word (sub-words s))
+
+-- f of each element and its number, counted from n
+unfoldable pub numbered : {A : Type 0} → (ℕ → A → List ℕ) → ℕ → List A → List ℕ
+numbered f n [] = []
+numbered f n (x ∷ xs) = f n x ++ numbered f (suc n) xs
+
+unfoldable pub frame-lines : ℕ → Coded → List ℕ
+frame-lines frame c = F-line frame c ++ numbered (S-line frame) 1 (c .frame .subframes)
+
+-- 160 samples of two bytes
+abbrev frame-bytes : ℕ
+frame-bytes = 320
+
+-- the lister's limit
+abbrev most-frames : ℕ
+most-frames = 1000000
+
+-- frames, samples left over, bytes left over after these, "end"; or "limit", when a byte follows the last frame that is read
+unfoldable pub E-line : ℕ → List ℕ
+E-line bytes =
+    cond (ltb (most-frames * frame-bytes) bytes)
+    (line (text "E" ∷ decimal most-frames ∷ decimal 0 ∷ decimal 0 ∷ text "limit" ∷ []))
+    (line (text "E" ∷ decimal (bytes / frame-bytes) ∷ decimal (bytes % frame-bytes / 2) ∷ decimal (bytes % 2) ∷ text "end" ∷ []))
+
+-- ---- the whole
+
+-- "16-bit samples, low byte first"
+unfoldable pub samples : List ℕ → List ℤ
+samples [] = []
+samples (low ∷ []) = []
+samples (low ∷ high ∷ bytes) = toZ w16 (low + 256 * high) ∷ samples bytes
+
+-- the whole frames, as far as the limit; left-over samples are never padded and coded
+unfoldable pub frames : List ℕ → List (List ℤ)
+frames bytes = map samples (cut (replicate (min (length bytes / frame-bytes) most-frames) frame-bytes) bytes)
+
+unfoldable pub listing : List ℕ → List ℕ
+listing bytes = header ++ (numbered frame-lines 1 (run coded home-coder (frames bytes) .1) ++ E-line (length bytes))

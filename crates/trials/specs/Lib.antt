@@ -1,0 +1,5 @@
+pub mod Encoding
+pub mod Made
+pub mod Decoding
+pub mod Packing
+pub mod Listing

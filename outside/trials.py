@@ -1,0 +1,200 @@
+#!/usr/bin/env python3
+"""Frames as theorems: what crates/trials states of encode and decode, each from the state before the frame.
+
+    python3 outside/trials.py VECTORS                 writes the files of crates/trials/specs
+    python3 outside/trials.py VECTORS --compare       compares them with what it would write, but for the layout of the lines
+
+Samples and codewords are those of the vectors; the states between frames are those of clause4.py, which compare.py holds to the
+vectors and to libgsm. The frames of Made.antt show what no vector does, and are clause4.py's alone. Status 1: a difference."""
+import argparse
+import os
+import sys
+
+from clause4 import Coder, Decoder, decode, encode, frames
+from signals import swell
+
+SPECS = os.path.join(os.path.dirname(__file__), '..', 'crates', 'trials', 'specs')
+
+# Which frames of the vectors, counted from 0, and what is to be seen in each
+ENCODED = [
+    ('e10_levels', 0, 'samples of -1, 0 and 1, from home'),
+    ('e32_speechlike', 10, 'a voice that sets in, quietly'),
+    ('e13_lowbits', 34, 'stray low bits; two lags by rule'),
+    ('e27_buzz40', 0, 'a buzz of period 40 from home: lag 40 by rule, then found'),
+    ('e15_impulse', 3, 'an impulse of -32768; the analysis lattice clips'),
+    ('e20_loudsilence', 7, 'silence after loud noise'),
+    ('e20_loudsilence', 34, 'as loud as can be; the analysis lattice clips, and abs(-32768) in 4.2.11'),
+    ('e29_rand16', 30, 'noise of the full range; the history and the weighting filter clip'),
+    ('e17_sines', 112, 'stopped at 8'),
+    ('e17_sines', 113, 'stopped at 6'),
+    ('e17_sines', 127, 'stopped at 4'),
+    ('e17_sines', 142, 'stopped at 3'),
+]
+DECODED = [
+    ('dec/d01_random', 0, 'random codewords, from home'),
+    ('dec/d01_random', 40, 'and further on'),
+    ('dec/d02_stray', 0, 'stray bits beside the valid ones'),
+    ('dec/d02_stray', 17, 'and further on'),
+    ('dec/d04_badlags', 0, 'lags outside 40 to 120, from home'),
+    ('dec/d04_badlags', 1, 'and with a lag remembered from the frame before'),
+    ('dec/d04_badlags', 30, 'and further on'),
+    ('dec/d08_zeroframe', 5, 'the zero frame once more'),
+    ('enc/e29_rand16', 30, 'a loud frame of our encoder'),
+    ('enc/e32_speechlike', 10, 'a quiet one'),
+]
+# Frames packed and unpacked, and inputs listed
+PACKED = [('e29_rand16', 30), ('e17_sines', 142), ('e32_speechlike', 10)]
+LISTED = ['e02_empty', 'e03_onebyte', 'e04_319bytes', 'e05_641bytes']
+# What no vector shows: the first frame from home or from another state, its samples, and what is to be seen
+MADE = [
+    ('stopped-at-2', Coder(), swell(160, 2, 32767, 160, 2), 'stopped at 2'),
+    ('stopped-at-5', Coder(), swell(160, 4, 32767, 160, 2), 'stopped at 5'),
+    ('stopped-at-7', Coder(), swell(160, 4, 8000, 80, 4), 'stopped at 7'),
+    ('zero-by-zero', Coder(), swell(160, 80, 20000, 160, 2), 'div(0, 0)'),
+    ('wrapped', Coder(z1=-16384, L_z2=397), [32767] + [0] * 159, 'from a sound state: at scale 4 a sample comes back as -32768'),
+]
+
+HEAD = """-- {title} Written by outside/trials.py.
+use mathlib.Core.Path.{{_≡_, refl}}
+use mathlib.Core.Option.{{some}}
+use mathlib.Core.List.{{[], _∷_}}
+use lib.IntN.{{pos}}
+use lib.ListN.{{replicate}}
+use Rattle.standard.specs.Tables.{{neg}}
+{uses}use Rattle.standard.specs.Opened.{{opened}}
+"""
+ENCODER_USES = """use Rattle.standard.specs.Lpc.{silent, stopped, complete}
+use Rattle.standard.specs.House.{rule, found}
+use Rattle.standard.specs.Answers.{encode}
+"""
+PACKING_USES = "use Rattle.standard.specs.Answers.{pack, unpack}\n"
+LISTING_USES = "use Rattle.standard.specs.Listing.{text, listing}\n"
+DECODER_USES = "use Rattle.standard.specs.Answers.{decode}\n"
+
+
+def number(x):
+    return f'pos {x}' if x >= 0 else f'neg {-x}'
+
+
+def items(xs, name=number):
+    return ' ∷ '.join([name(x) for x in xs] + ['[]'])
+
+
+def state(carried):
+    """A state as a record; the model's L_z2 is L-z2 there, its decoder's dp is drp."""
+    names = {'L_z2': 'L-z2'} if isinstance(carried, Coder) else {'dp': 'drp'}
+    fields = [f'{names.get(name, name)} = {items(value) if isinstance(value, list) else number(value)}' for name, value in vars(carried).items()]
+    return 'record { ' + '; '.join(fields) + ' }'
+
+
+def ending_of(word):
+    return f'some (stopped {word[4:]})' if word.startswith('stop') else f'some {word}'
+
+
+def theorem(name, seen, call, answer):
+    return f'\n-- {seen}\npub {name} : {call} ≡ {answer}\nunfolding opened\n{name} = refl\n'
+
+
+def done(fields):
+    return f'record {{ number = 0; {fields} }}'
+
+
+def encoded(name, seen, before, samples, given=None):
+    after, codewords, ending, marks = encode(before, samples)
+    if given not in (None, codewords):
+        sys.exit(f'{name}: the model and the vector differ')
+    call = f'encode ({state(before)}) ({items(samples)}) (replicate 76 (pos 0))'
+    shown = ' ∷ '.join([f'some {mark}' for mark in marks] + ['[]'])
+    answer = f'state = {state(after)}; ending = {ending_of(ending)}; marks = {shown}; codewords = {items(codewords)}'
+    return theorem(name, seen, call, done(answer))
+
+
+def decoded(name, seen, before, codewords, given):
+    after, samples = decode(before, codewords)
+    if given != samples:
+        sys.exit(f'{name}: the model and the vector differ')
+    call = f'decode ({state(before)}) ({items(codewords)}) (replicate 160 (pos 0))'
+    return theorem(name, seen, call, done(f'state = {state(after)}; samples = {items(samples)}'))
+
+
+def contents(folder, name):
+    with open(os.path.join(folder, name), 'rb') as file:
+        return file.read()
+
+
+def frames_of(folder, name, size):
+    return frames(contents(folder, name), size)
+
+
+def before(step, home, given, number):
+    """The state before a frame."""
+    for frame in given[:number]:
+        home = step(home, frame)[0]
+    return home
+
+
+def encoding(folder):
+    yield HEAD.format(title='Frames of the vectors, encoded.', uses=ENCODER_USES)
+    for name, place, seen in ENCODED:
+        raw, cod = frames_of(folder, f'enc/{name}.raw', 160), frames_of(folder, f'enc/{name}.cod', 76)
+        yield encoded(f'{name.replace("_", "-")}-{place}', seen, before(encode, Coder(), raw, place), raw[place], cod[place])
+
+
+def made(folder):
+    yield HEAD.format(title='Frames for what no vector shows, encoded.', uses=ENCODER_USES)
+    for name, home, samples, seen in MADE:
+        yield encoded(name, seen, home, samples)
+
+
+def decoding(folder):
+    yield HEAD.format(title='Frames of the vectors, decoded.', uses=DECODER_USES)
+    for name, place, seen in DECODED:
+        cod, out = frames_of(folder, f'{name}.cod', 76), frames_of(folder, f'{name}.out', 160)
+        short = name.split('/')[1].replace('_', '-')
+        yield decoded(f'{short}-{place}', seen, before(decode, Decoder(), cod, place), cod[place], out[place])
+
+
+def packing(folder):
+    yield HEAD.format(title='Frames of the vectors, packed and unpacked.', uses=PACKING_USES)
+    for name, place in PACKED:
+        words = items(frames_of(folder, f'enc/{name}.cod', 76)[place])
+        bytes_ = items(contents(folder, f'enc/{name}.pack')[33 * place:33 * place + 33], str)
+        short = f'{name.replace("_", "-")}-{place}'
+        yield theorem(f'{short}-packed', 'to bytes', f'pack ({words}) (replicate 33 255)', done(f'bytes = {bytes_}'))
+        yield theorem(f'{short}-unpacked', 'and back', f'unpack ({bytes_}) (replicate 76 (pos 1))', done(f'codewords = {words}'))
+
+
+def listing(folder):
+    yield HEAD.format(title='Inputs of the vectors, listed.', uses=LISTING_USES)
+    for name in LISTED:
+        text = contents(folder, f'enc/{name}.lst').decode('ascii').replace('\t', '\\t').replace('\n', '\\n')
+        raw = contents(folder, f'enc/{name}.raw')
+        yield theorem(name.replace('_', '-'), f'{len(raw)} bytes', f'listing ({items(raw, str)})', f'text "{text}"')
+
+
+MAKERS = {'Encoding': encoding, 'Made': made, 'Decoding': decoding, 'Packing': packing, 'Listing': listing}
+
+
+def main():
+    parser = argparse.ArgumentParser(description=__doc__, formatter_class=argparse.RawDescriptionHelpFormatter)
+    parser.add_argument('vectors')
+    parser.add_argument('--compare', action='store_true')
+    arguments = parser.parse_args()
+    for name, maker in MAKERS.items():
+        path, text = os.path.join(SPECS, f'{name}.antt'), ''.join(maker(arguments.vectors))
+        if not arguments.compare:
+            with open(path, 'w', encoding='utf-8') as file:
+                file.write(text)
+        else:
+            with open(path, encoding='utf-8') as file:
+                if file.read().split() != text.split():
+                    print(f'crates/trials/specs/{name}.antt is not what trials.py writes')
+                    return 1
+    if arguments.compare:
+        print(f'crates/trials: {len(ENCODED) + len(MADE)} frames encoded, {len(DECODED)} decoded, {len(PACKED)} packed and unpacked, '
+              f'{len(LISTED)} inputs listed, as the vectors and the model have them')
+    return 0
+
+
+if __name__ == '__main__':
+    sys.exit(main())
