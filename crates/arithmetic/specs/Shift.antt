@@ -4,9 +4,9 @@ use mathlib.Core.Path.{_≡_, refl, sym, ap, _∙_}
 use mathlib.Core.Bool.{true, false}
 use mathlib.Core.Logic.{⊎-elim}
 use native.Mathlib.Omega.{arith}
-use native.Mathlib.Nat.{div-eq-of-lt, mod-lt, mod-eq-of-lt, div-add-mod', mul-mod-left, zero-mod, lt-of-mul-lt-mul-right, mul-assoc, div-le-of-le-mul, div-lt-iff-lt-mul, le-of-suc-le-suc}
+use native.Mathlib.Nat.{div-eq-of-lt, mod-lt, mod-eq-of-lt, div-add-mod', mul-mod-left, mul-div-left, zero-mod, lt-of-mul-lt-mul-right, mul-assoc, div-le-of-le-mul, div-lt-iff-lt-mul, le-of-suc-le-suc}
 use lib.Pow.{pow-mono, pow-add, pow-pos}
-use lib.Arith.{digits-mod, mod-mul}
+use lib.Arith.{digits-div, digits-mod, mod-mul}
 use lib.IntN.{ℤ, pos, negsuc, _*ℤ_, negℤ, natAbs}
 use lib.Signed.{shrZ, ltZ}
 use mir.Syntax.{Width, w16, w32}
@@ -67,7 +67,7 @@ up-all w z n f h = sym (up-bits w z n f) ∙ (ap (toZ w) gone ∙ toZ-pos w (pow
     gone : (ofZ w z * 2 ^ n) % 2 ^ bits w ≡ 0
     gone = rw (ap (λ (x : ℕ). 2 ^ x) k ∙ pow-add 2 (n - bits w) (bits w), ← mul-assoc) (mul-mod-left (ofZ w z * 2 ^ (n - bits w)) (2 ^ bits w))
 
-modulo-below : (z : ℤ) {m : ℕ} → 0 < m → modulo z m < m
+pub modulo-below : (z : ℤ) {m : ℕ} → 0 < m → modulo z m < m
 unfolding modulo
 modulo-below (pos n) h = mod-lt n h
 modulo-below (negsuc n) h = omega arith
@@ -123,13 +123,15 @@ module _ (w : Width) (x : ℤ) where
 
 -- ---- the low word of a long word, as the code extracts it: up to the top and back
 
-modulo-up : (z : ℤ) → modulo (z *ℤ pos 65536) 4294967296 ≡ modulo z 65536 * 65536
+-- the low part of a number scaled up by c is that of the number, scaled up
+pub modulo-scaled : (z : ℤ) {m c : ℕ} → 0 < m → 0 < c → modulo (z *ℤ pos c) (m * c) ≡ modulo z m * c
 unfolding modulo
-modulo-up (pos n) = omega arith
-modulo-up (negsuc n) =
-    let e : suc n * 65536 ≡ suc (n * 65536 + 65535) = omega arith in
-    let m : (n * 65536 + 65535) % 4294967296 ≡ n % 65536 * 65536 + 65535 = omega (arith, mod-mul (n * 65536 + 65535) {m = 65536} {c = 65536} (omega arith) (omega arith)) in
-    rw e (omega (arith, m, mod-lt n {m = 65536} (omega arith)))
+modulo-scaled (pos n) {m} {c} h k = rw (mod-mul (n * c) h k, mul-div-left n k, mul-mod-left n c) (omega arith)
+modulo-scaled (negsuc n) {m} {c} h k =
+    let e : suc n * c ≡ suc (n * c + (c - 1)) = omega arith in
+    let b : c - 1 < c = omega arith in
+    let d : m ≡ m - suc (n % m) + suc (n % m) = omega (arith, mod-lt n h) in
+    rw (e, mod-mul (n * c + (c - 1)) h k, digits-div n b, digits-mod n b) (omega (arith, ap (λ (x : ℕ). x * c) d))
 
 down-top : (l : ℕ) → l < 65536 → down (toZ w32 (l * 65536)) 16 ≡ toZ w16 l
 down-top l h =
@@ -144,4 +146,4 @@ down-top l h =
 
 pub low-word : (z : ℤ) → down (up w32 z 16) 16 ≡ keep w16 z
 unfolding keep
-low-word z = rw (modulo-up z) (down-top (modulo z 65536) (modulo-below z (omega arith)))
+low-word z = rw (modulo-scaled z {m = 65536} {c = 65536} (omega arith) (omega arith)) (down-top (modulo z 65536) (modulo-below z (omega arith)))

@@ -33,7 +33,7 @@ pub record FrameSizes (f : Frame) : Type 0 where
   pub pulses : every full (f .subframes) ≡ true
 
 -- a sub-frame of thirteen pulses is 17 codewords
-sub-words-sized : (g : Subframe) → full g ≡ true → sized 17 (sub-words g) ≡ true
+pub sub-words-sized : (g : Subframe) → full g ≡ true → sized 17 (sub-words g) ≡ true
 unfolding sub-words
 sub-words-sized g e = sized-yes 17 (sub-words g) (omega (arith, sized-length 13 (g .xMc) e))
 

@@ -12,7 +12,7 @@ use lib.Signed.{ltZ, leZ}
 use lib.ListN.{length, getD, take, length-append, List·getD-append}
 use lib.Seq.{take-suc, getD-append-seam, length-take-le}
 use borrow.Author.Tests.{not-true, not-false}
-use Rattle.integers.specs.Halves.{zar}
+use Rattle.integers.specs.Halves.{zar, either}
 use Rattle.lists.specs.Steps.{fold-keeps}
 use Rattle.lists.specs.First.{by-cond, first, first-holds, first-least, first-until, first-unique}
 
@@ -120,6 +120,12 @@ module _ (xs : List ℤ) where
       by-cond (λ k. j < k → ltZ (getD xs j (pos 0)) (largest xs) ≡ true) (ltZ (pos 0) (largest xs))
       (λ h l. not-false _ (first-least _ _ 0 j (omega arith) l))
       (λ h l. absurd (omega arith))
+
+  -- so the largest is no greater than what no element is above
+  pub largest-within : (b : ℤ) → leZ (pos 0) b ≡ true → ((j : ℕ) → j < length xs → leZ (getD xs j (pos 0)) b ≡ true) → leZ (largest xs) b ≡ true
+  unfolding best
+  largest-within b l h =
+      ⊎-elim (λ t. let (k, e) = best-at t in rw e at (h (best xs .at) k)) (λ t. omega zar) (either (ltZ (pos 0) (largest xs)))
 
   -- whatever the elements are, the place is one of the list's, where the list has any
   pub best-within : 0 < length xs → best xs .at < length xs

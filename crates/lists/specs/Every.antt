@@ -6,6 +6,7 @@ use mathlib.Core.List.{List, [], _∷_, _++_, map, zip, zipWith, flatten}
 use Prim.Native.Nat.{ℕ, zero, suc, _<_}
 use native.Mathlib.Omega.{arith}
 use lib.ListN.{length, getD, take, drop, replicate, take-append-drop}
+use Rattle.lists.specs.Tab.{tab, tab-length, tab-at-zero}
 use Rattle.lists.specs.Cut.{cut, cut-rest}
 
 module _ {A : Type 0} (p : A → Bool) where
@@ -24,6 +25,16 @@ module _ {A : Type 0} (p : A → Bool) where
   every-at [] i d e h = absurd (omega arith)
   every-at (x ∷ xs) zero d e h = every-cons x xs .0 e .0
   every-at (x ∷ xs) (suc i) d e h = every-at xs i d (every-cons x xs .0 e .1) (omega arith)
+
+  -- and where it holds of the element at each place, it holds of all
+  pub every-places : (xs : List A) (d : A) → ((i : ℕ) → i < length xs → p (getD xs i d) ≡ true) → every xs ≡ true
+  unfolding every
+  every-places [] d h = refl
+  every-places (x ∷ xs) d h = every-cons x xs .1 (h 0 (omega arith), every-places xs d (λ i l. h (suc i) (omega arith)))
+
+  -- what was computed over a table holds of what is at each place
+  pub every-tab : (f : ℕ → A) (n k : ℕ) → every (tab f 0 n) ≡ true → k < n → p (f k) ≡ true
+  every-tab f n k e h = rw (tab-at-zero f n k (f 0) h) at (every-at (tab f 0 n) k (f 0) e (rw tab-length h))
 
   -- it holds of one element many times over
   pub every-replicate : (n : ℕ) (x : A) → p x ≡ true → every (replicate n x) ≡ true

@@ -7,7 +7,7 @@ use native.Mathlib.Numerals.{add-one}
 use native.Mathlib.Omega.{arith}
 use lib.ListN.{length, getD, set, take, drop, drop-of-length-le}
 use lib.Seq.{drop-cons, take-suc-set, take-all, append-snoc}
-use Rattle.lists.specs.Every.{every, every-cons}
+use Rattle.lists.specs.Every.{every, every-cons, every-all}
 
 module _ {S A B : Type 0} (step : S → A → S × B) where
   -- the last state and the outputs, where each element in turn takes the state to the next one and gives an output
@@ -55,6 +55,11 @@ module _ {S A B : Type 0} (step : S → A → S × B) where
       let (h₀, g₀) = k s x h e₀ in
       let (h₁, g₁) = run-keeps Q p q k (step s x .0) xs h₀ e₁ in
       (h₁, every-cons q (step s x .1) (run (step s x .0) xs .1) .1 (g₀, g₁))
+
+  -- what the output of each step passes each output of the run passes
+  pub run-every : (q : B → Bool) → ((s : S) (x : A) → q (step s x .1) ≡ true) → (s : S) (xs : List A) → every q (run s xs .1) ≡ true
+  run-every q h s xs =
+      run-keeps (λ s. Unit) (λ x. true) q (λ s x _ _. (tt, h s x)) s xs tt (every-all (λ x. true) (λ x. refl) xs) .1
 
   module _ (s₀ : S) (xs : List A) where
     -- the loop's invariant: what is written, and what is still to come from the state s, make up the whole run

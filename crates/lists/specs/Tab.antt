@@ -1,6 +1,6 @@
 -- For a loop that writes or reads a list by index: a list whose elements are given by their places, and the elements of `map` and `zipWith`.
 use mathlib.Core.Path.{_≡_, refl, sym, ap, _∙_}
-use mathlib.Core.List.{List, [], _∷_, map, zipWith}
+use mathlib.Core.List.{List, [], _∷_, _++_, map, zipWith}
 use Prim.Native.Nat.{ℕ, zero, suc, _+_, _<_, min}
 use native.Mathlib.Omega.{arith}
 use lib.ListN.{length, getD, replicate, length-map, List·getD-map}
@@ -58,6 +58,15 @@ module _ {A B C : Type 0} (f : A → B → C) where
   zip-at (x ∷ xs) [] k a b z p q = absurd (omega arith)
   zip-at (x ∷ xs) (y ∷ ys) zero a b z p q = refl
   zip-at (x ∷ xs) (y ∷ ys) (suc k) a b z p q = zip-at xs ys k a b z (omega arith) (omega arith)
+
+  -- two lists joined go together with two joined, where the first of them have one length
+  pub zip-append : (xs xs′ : List A) (ys ys′ : List B) → length xs ≡ length ys
+      → zipWith f (xs ++ xs′) (ys ++ ys′) ≡ zipWith f xs ys ++ zipWith f xs′ ys′
+  unfolding zipWith
+  zip-append [] xs′ [] ys′ h = refl
+  zip-append [] xs′ (y ∷ ys) ys′ h = absurd (omega arith)
+  zip-append (x ∷ xs) xs′ [] ys′ h = absurd (omega arith)
+  zip-append (x ∷ xs) xs′ (y ∷ ys) ys′ h = ap (f x y ∷_) (zip-append xs xs′ ys ys′ (omega arith))
 
 -- one element against each of a list is a map
 pub zip-replicate : {A B C : Type 0} (f : A → B → C) (a : A) (n : ℕ) (ys : List B) → length ys ≡ n → zipWith f (replicate n a) ys ≡ map (f a) ys

@@ -1,0 +1,50 @@
+-- What the tests of a range and of a field say, for `omega`; and the test of several fields.
+use Prim.Native.Nat.{ℕ, _^_, _<_}
+use mathlib.Core.Path.{_≡_, sym}
+use mathlib.Core.Bool.{Bool, true, true≢false, and-eq-true-iff}
+use mathlib.Core.List.{List, _++_, zipWith}
+use native.Mathlib.Omega.{arith}
+use lib.IntN.{ℤ, pos, negsuc}
+use lib.ListN.{length, replicate}
+use lib.Signed.{leZ}
+use borrow.Author.Tests.{ltb-true, lt-ltb}
+use Rattle.integers.specs.Halves.{P, N}
+use Rattle.lists.specs.Tab.{zip-append, zip-replicate}
+use Rattle.lists.specs.Every.{every, every-append, every-map}
+use Rattle.standard.specs.Arithmetic.{within}
+use Rattle.standard.specs.House.{fit}
+
+-- a number that is between the two ends is within the range
+pub within-yes : (least most z : ℤ) → leZ least z ≡ true → leZ z most ≡ true → within least most z ≡ true
+within-yes least most z l m = rw (l, m)
+
+-- and one within the range is between them
+pub within-is : (least most z : ℤ) → within least most z ≡ true → (leZ least z ≡ true) × (leZ z most ≡ true)
+within-is least most z h = and-eq-true-iff (leZ least z) (leZ z most) .0 h
+
+-- a number that is not negative and below the field's limit fits
+pub fit-yes : (width : ℕ) (z : ℤ) → P z < 2 ^ width → N z ≡ 0 → fit width z ≡ true
+unfolding fit
+fit-yes width (pos n) h e = lt-ltb n (2 ^ width) h
+fit-yes width (negsuc n) h e = absurd (omega arith)
+
+-- and one that fits is so
+pub fit-is : (width : ℕ) (z : ℤ) → fit width z ≡ true → (P z < 2 ^ width) × (N z ≡ 0)
+unfolding fit
+fit-is width (pos n) h = omega (arith, ltb-true n (2 ^ width) h)
+fit-is width (negsuc n) h = absurd (true≢false (sym h))
+
+-- ---- codewords beside the widths of their fields
+
+-- each codeword fits its field
+abbrev pub all-fit : List ℕ → List ℤ → Bool
+all-fit ws cs = every (λ b. b) (zipWith fit ws cs)
+
+-- codewords that fit one width fit fields of that width
+pub same-width : (n w : ℕ) (cs : List ℤ) → length cs ≡ n → every (fit w) cs ≡ true → all-fit (replicate n w) cs ≡ true
+same-width n w cs l h = rw (zip-replicate fit w n cs l, every-map) h
+
+-- what fits some fields, and what fits those that follow, fits all of them
+pub joined : (ws ws′ : List ℕ) (cs cs′ : List ℤ)
+    → length ws ≡ length cs → all-fit ws cs ≡ true → all-fit ws′ cs′ ≡ true → all-fit (ws ++ ws′) (cs ++ cs′) ≡ true
+joined ws ws′ cs cs′ l h k = rw (zip-append fit ws ws′ cs cs′ l, every-append, h, k)
