@@ -19,9 +19,9 @@ use Rattle.lists.specs.First.{first}
 use Rattle.lists.specs.Best.{best-within}
 use Rattle.lists.specs.Tab.{tab, tab-length, tab-at-zero}
 use Rattle.lists.specs.Every.{every, every-places, every-tab, every-map}
-use Rattle.standard.specs.Arithmetic.{clip, modulo, keep, plus, minus, within, _>>_, shl, add, sub, mult, abs, peak}
+use Rattle.standard.specs.Arithmetic.{clip, modulo, keep, plus, minus, within, _>>_, shl, add, sub, mult, abs, peak, L-squares}
 use Rattle.standard.specs.Tables.{_at_, NRFAC}
-use Rattle.standard.specs.Rpe.{filtered, weighted, Mc, energy, grid, exponent, xmaxc, Amplitude, mantissa, amplitude, xMc}
+use Rattle.standard.specs.Rpe.{filtered, weighted, Mc, grid, exponent, xmaxc, Amplitude, mantissa, amplitude, xMc}
 use Rattle.standard.specs.House.{fit}
 use Rattle.arithmetic.specs.Clip.{clip-is, plus-clip, abs-clip}
 use Rattle.arithmetic.specs.Shift.{keep-fits, shl-exact}
@@ -34,8 +34,8 @@ use Rattle.fields.specs.Amplitudes.{peak-in, peak-covers, top, top-cover
 pub grid-in : (x : List ℤ) → Mc x ≤ 3
 unfolding Mc
 grid-in x =
-    let n = tab-length (λ (m : ℕ). energy (grid m x)) 0 4 in
-    let b = best-within (tab (λ m. energy (grid m x)) 0 4) (omega arith) in
+    let n = tab-length (λ (m : ℕ). L-squares 2 (grid m x)) 0 4 in
+    let b = best-within (tab (λ m. L-squares 2 (grid m x)) 0 4) (omega arith) in
     omega arith
 
 -- ---- the pulses

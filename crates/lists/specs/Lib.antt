@@ -8,3 +8,4 @@ pub mod Parts
 pub mod Every
 pub mod Cut
 pub mod Lengths
+pub mod For

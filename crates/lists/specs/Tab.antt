@@ -1,7 +1,7 @@
 -- For a loop that writes or reads a list by index: a list whose elements are given by their places, and the elements of `map` and `zipWith`.
 use mathlib.Core.Path.{_≡_, refl, sym, ap, _∙_}
 use mathlib.Core.List.{List, [], _∷_, _++_, map, zipWith}
-use Prim.Native.Nat.{ℕ, zero, suc, _+_, _<_, min}
+use Prim.Native.Nat.{ℕ, zero, suc, _+_, _≤_, _<_, min}
 use native.Mathlib.Omega.{arith}
 use lib.ListN.{length, getD, replicate, length-map, List·getD-map}
 use lib.Seq.{ext-getD}
@@ -67,6 +67,13 @@ module _ {A B C : Type 0} (f : A → B → C) where
   zip-append [] xs′ (y ∷ ys) ys′ h = absurd (omega arith)
   zip-append (x ∷ xs) xs′ [] ys′ h = absurd (omega arith)
   zip-append (x ∷ xs) xs′ (y ∷ ys) ys′ h = ap (f x y ∷_) (zip-append xs xs′ ys ys′ (omega arith))
+
+  -- what the second list has beyond the first is not read
+  pub zip-front : (xs : List A) (ys zs : List B) → length xs ≤ length ys → zipWith f xs (ys ++ zs) ≡ zipWith f xs ys
+  unfolding zipWith
+  zip-front [] ys zs h = refl
+  zip-front (x ∷ xs) [] zs h = absurd (omega arith)
+  zip-front (x ∷ xs) (y ∷ ys) zs h = ap (f x y ∷_) (zip-front xs ys zs (omega arith))
 
 -- one element against each of a list is a map
 pub zip-replicate : {A B C : Type 0} (f : A → B → C) (a : A) (n : ℕ) (ys : List B) → length ys ≡ n → zipWith f (replicate n a) ys ≡ map (f a) ys

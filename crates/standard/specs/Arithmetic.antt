@@ -114,3 +114,9 @@ peak xs = largest (map abs xs)
 -- the sum of the products of two lists, as far as the shorter goes, from a first value on
 unfoldable pub L-sum : ℤ → List ℤ → List ℤ → ℤ
 L-sum start a b = foldl L-add start (zipWith L-mult a b)
+
+-- the sum of the squares of a list whose elements are shifted right by n first: L_power in 4.2.11, the energy of a grid in 4.2.14
+unfoldable pub L-squares : ℕ → List ℤ → ℤ
+L-squares n xs =
+    let wt = map (λ x. x >> n) xs in
+    L-sum (pos 0) wt wt

@@ -30,6 +30,8 @@ sub-decoded (drp, nrp) f =
     let new = reconstructed (natAbs lag) f drp in
     ((updated drp new, lag), new)
 
+-- ---- 4.3.3 Computation of the decoded reflection coefficients: `ratios` (4.2.8) and `coefficients` (4.2.9), as in the coder
+
 -- ---- 4.3.4 Short term synthesis filtering section
 
 -- section i, from rrp[i] and v[i − 1]: sri, and v[i] before those of the sections above

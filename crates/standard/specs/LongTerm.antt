@@ -9,7 +9,7 @@ use mir.Syntax.{w16, w32}
 use Rattle.lists.specs.First.{first}
 use Rattle.lists.specs.Best.{Best, best}
 use Rattle.lists.specs.Tab.{tab}
-use Rattle.standard.specs.Arithmetic.{_>>_, is-zero, up, shr, sub, mult, mult-r, norm, peak, L-sum}
+use Rattle.standard.specs.Arithmetic.{is-zero, up, shr, sub, mult, mult-r, norm, peak, L-sum, L-squares}
 use Rattle.standard.specs.Tables.{_at_, DLB, QLB}
 use Rattle.standard.specs.Lpc.{normalized}
 
@@ -42,9 +42,7 @@ Nc b = 40 + b .at
 
 -- the power of the reconstructed signal at the lag
 unfoldable pub L-power : ℕ → List ℤ → ℤ
-L-power lag dp =
-    let wt = map (λ x. x >> 3) (back lag dp) in
-    L-sum (pos 0) wt wt
+L-power lag dp = L-squares 3 (back lag dp)
 
 -- the first level that R does not exceed, or 3
 unfoldable pub gain-level : ℤ → ℤ → ℕ

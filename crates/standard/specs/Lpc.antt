@@ -57,7 +57,7 @@ reflection P0 P1 =
     cond (ltZ (pos 0) P1) (sub (pos 0) r) r
 
 -- the coefficients that the next n steps measure, from P[0], from P[1], P[2] .. and from K[8], K[7] ..; it stops where P[0] < abs(P[1]).
--- Each step leaves one P and one K less: those that no further step reads
+-- Each step leaves one P less, and a K for each but the first: no further step reads more
 unfoldable pub measured : ℕ → ℤ → List ℤ → List ℤ → List ℤ
 measured zero P0 P K = []
 measured (suc n) P0 [] K = []

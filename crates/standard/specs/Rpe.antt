@@ -10,7 +10,7 @@ use mir.Syntax.{w16}
 use Rattle.lists.specs.First.{first}
 use Rattle.lists.specs.Best.{best}
 use Rattle.lists.specs.Tab.{tab}
-use Rattle.standard.specs.Arithmetic.{_>>_, _<<_, low, shl, shr, add, sub, mult, mult-r, L-add, peak, L-sum}
+use Rattle.standard.specs.Arithmetic.{_>>_, _<<_, low, shl, shr, add, sub, mult, mult-r, L-add, L-sum, L-squares}
 use Rattle.standard.specs.Tables.{_at_, H, NRFAC, FAC}
 use Rattle.standard.specs.Frame.{Subframe}
 use Rattle.standard.specs.LongTerm.{dpp}
@@ -37,14 +37,9 @@ weighted e =
 unfoldable pub grid : ℕ → List ℤ → List ℤ
 grid m x = tab (λ i. x at (m + 3 * i)) 0 13
 
-unfoldable pub energy : List ℤ → ℤ
-energy xM =
-    let temp1 = map (λ x. x >> 2) xM in
-    L-sum (pos 0) temp1 temp1
-
 -- Mc: the first grid of the greatest energy above 0, or 0
 unfoldable pub Mc : List ℤ → ℕ
-Mc x = best (tab (λ m. energy (grid m x)) 0 4) .at
+Mc x = best (tab (λ m. L-squares 2 (grid m x)) 0 4) .at
 
 -- ---- 4.2.15 APCM quantization of the selected RPE sequence
 
