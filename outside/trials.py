@@ -8,6 +8,7 @@ Samples and codewords are those of the vectors; the states between frames are th
 vectors and to libgsm. The frames of Made.antt show what no vector does, and are clause4.py's alone. Status 1: a difference."""
 import argparse
 import os
+import re
 import sys
 
 from clause4 import Coder, Decoder, decode, encode, frames
@@ -54,22 +55,29 @@ MADE = [
     ('wrapped', Coder(z1=-16384, L_z2=397), [32767] + [0] * 159, 'from a sound state: at scale 4 a sample comes back as -32768'),
 ]
 
-HEAD = """-- {title} Written by outside/trials.py.
-use mathlib.Core.Path.{{_≡_, refl}}
-use mathlib.Core.Option.{{some}}
-use mathlib.Core.List.{{[], _∷_}}
-use lib.IntN.{{pos}}
-use lib.ListN.{{replicate}}
-use Rattle.standard.specs.Tables.{{neg}}
-{uses}use Rattle.standard.specs.Opened.{{opened}}
-"""
-ENCODER_USES = """use Rattle.standard.specs.Lpc.{silent, stopped, complete}
-use Rattle.standard.specs.House.{rule, found}
-use Rattle.standard.specs.Answers.{encode}
-"""
-PACKING_USES = "use Rattle.standard.specs.Answers.{pack, unpack}\n"
-LISTING_USES = "use Rattle.standard.specs.Listing.{text, listing}\n"
-DECODER_USES = "use Rattle.standard.specs.Answers.{decode}\n"
+# What the files import, where they name it
+USES = [
+    ('mathlib.Core.Path', ['_≡_', 'refl']),
+    ('mathlib.Core.Option', ['some']),
+    ('mathlib.Core.List', ['[]', '_∷_']),
+    ('lib.IntN', ['pos']),
+    ('lib.ListN', ['replicate']),
+    ('Rattle.standard.specs.Tables', ['neg']),
+    ('Rattle.standard.specs.Lpc', ['silent', 'stopped', 'complete']),
+    ('Rattle.standard.specs.House', ['rule', 'found']),
+    ('Rattle.standard.specs.Answers', ['encode', 'decode', 'pack', 'unpack']),
+    ('Rattle.standard.specs.Listing', ['text', 'listing']),
+    ('Rattle.standard.specs.Opened', ['opened']),
+]
+
+
+def whole(title, theorems):
+    """A whole file: its title, what it uses, its theorems."""
+    body = ''.join(theorems)
+    words = set(re.sub('"[^"]*"', ' ', re.sub('--.*', ' ', body)).replace('(', ' ').replace(')', ' ').replace(';', ' ').split())
+    uses = [(module, [name for name in names if name.strip('_') in words]) for module, names in USES]
+    lines = ['use %s.{%s}\n' % (module, ', '.join(names)) for module, names in uses if names]
+    return f'-- {title} Written by outside/trials.py.\n' + ''.join(lines) + body
 
 
 def number(x):
@@ -134,20 +142,17 @@ def before(step, home, given, number):
 
 
 def encoding(folder):
-    yield HEAD.format(title='Frames of the vectors, encoded.', uses=ENCODER_USES)
     for name, place, seen in ENCODED:
         raw, cod = frames_of(folder, f'enc/{name}.raw', 160), frames_of(folder, f'enc/{name}.cod', 76)
         yield encoded(f'{name.replace("_", "-")}-{place}', seen, before(encode, Coder(), raw, place), raw[place], cod[place])
 
 
 def made(folder):
-    yield HEAD.format(title='Frames for what no vector shows, encoded.', uses=ENCODER_USES)
     for name, home, samples, seen in MADE:
         yield encoded(name, seen, home, samples)
 
 
 def decoding(folder):
-    yield HEAD.format(title='Frames of the vectors, decoded.', uses=DECODER_USES)
     for name, place, seen in DECODED:
         cod, out = frames_of(folder, f'{name}.cod', 76), frames_of(folder, f'{name}.out', 160)
         short = name.split('/')[1].replace('_', '-')
@@ -155,7 +160,6 @@ def decoding(folder):
 
 
 def packing(folder):
-    yield HEAD.format(title='Frames of the vectors, packed and unpacked.', uses=PACKING_USES)
     for name, place in PACKED:
         words = items(frames_of(folder, f'enc/{name}.cod', 76)[place])
         bytes_ = items(contents(folder, f'enc/{name}.pack')[33 * place:33 * place + 33], str)
@@ -165,14 +169,19 @@ def packing(folder):
 
 
 def listing(folder):
-    yield HEAD.format(title='Inputs of the vectors, listed.', uses=LISTING_USES)
     for name in LISTED:
         text = contents(folder, f'enc/{name}.lst').decode('ascii').replace('\t', '\\t').replace('\n', '\\n')
         raw = contents(folder, f'enc/{name}.raw')
         yield theorem(name.replace('_', '-'), f'{len(raw)} bytes', f'listing ({items(raw, str)})', f'text "{text}"')
 
 
-MAKERS = {'Encoding': encoding, 'Made': made, 'Decoding': decoding, 'Packing': packing, 'Listing': listing}
+MAKERS = {
+    'Encoding': ('Frames of the vectors, encoded.', encoding),
+    'Made': ('Frames for what no vector shows, encoded.', made),
+    'Decoding': ('Frames of the vectors, decoded.', decoding),
+    'Packing': ('Frames of the vectors, packed and unpacked.', packing),
+    'Listing': ('Inputs of the vectors, listed.', listing),
+}
 
 
 def main():
@@ -180,8 +189,8 @@ def main():
     parser.add_argument('vectors')
     parser.add_argument('--compare', action='store_true')
     arguments = parser.parse_args()
-    for name, maker in MAKERS.items():
-        path, text = os.path.join(SPECS, f'{name}.antt'), ''.join(maker(arguments.vectors))
+    for name, (title, maker) in MAKERS.items():
+        path, text = os.path.join(SPECS, f'{name}.antt'), whole(title, maker(arguments.vectors))
         if not arguments.compare:
             with open(path, 'w', encoding='utf-8') as file:
                 file.write(text)

@@ -1,12 +1,12 @@
 -- The clip of add, sub, L_add, L_sub and abs: what it gives, and where it does nothing.
-use Prim.Native.Nat.{ℕ, zero, suc, _+_, _-_, _^_, _<_, _≤_, min}
+use Prim.Native.Nat.{_+_, _-_, _^_, min}
 use mathlib.Core.Path.{_≡_}
 use native.Mathlib.Omega.{arith}
 use lib.Pow.{pow-pos}
 use lib.IntN.{ℤ, pos, negsuc, _+ℤ_, _-ℤ_, natAbs}
 use mir.Syntax.{Width, w16}
 use mir.Val.{SFits, hbits}
-use Rattle.integers.specs.Halves.{P, N, zar, know, abs-is}
+use Rattle.integers.specs.Halves.{P, N, zar, know}
 use Rattle.standard.specs.Arithmetic.{clip, plus, minus, abs}
 
 pub clip-is : (w : Width) (z : ℤ) → (P (clip w z) ≡ min (P z) (2 ^ hbits w - 1)) × (N (clip w z) ≡ min (N z) (2 ^ hbits w))

@@ -1,7 +1,7 @@
 -- div: its value by case, its range, and that 001's loop computes it.
 use Prim.Native.Nat.{ℕ, zero, suc, _+_, _*_, _-_, _/_, _^_, _<_, _≤_}
-use mathlib.Core.Path.{_≡_, refl, sym, ap, _∙_}
-use mathlib.Core.Bool.{true, false, cond}
+use mathlib.Core.Path.{_≡_, refl, ap, _∙_}
+use mathlib.Core.Bool.{true, cond}
 use mathlib.Core.Logic.{_⊎_, inl, inr, ⊎-elim}
 use native.Mathlib.Omega.{arith}
 use native.Mathlib.Nat.{pow-succ', add-mul-div-left, mul-one, div-eq-of-lt, zero-div, div-zero as n/0, le-div-iff-mul-le, div-lt-iff-lt-mul, le-antisymm}
@@ -12,7 +12,7 @@ use mir.Syntax.{w16}
 use mir.Val.{SFits}
 use borrow.Author.Tests.{le-leb, lt-leb}
 use Rattle.integers.specs.Halves.{P, N, zar, le-or-lt}
-use Rattle.standard.specs.Arithmetic.{clip, div}
+use Rattle.standard.specs.Arithmetic.{div}
 use Rattle.arithmetic.specs.Clip.{clip-is}
 
 -- ---- by case

@@ -5,3 +5,4 @@ pub mod Div
 pub mod Norm
 pub mod Results
 pub mod Sum
+pub mod Within

@@ -8,9 +8,9 @@ use native.Mathlib.Nat.{div-eq-of-lt, mod-lt, mod-eq-of-lt, div-add-mod', mul-mo
 use lib.Pow.{pow-mono, pow-add, pow-pos}
 use lib.Arith.{digits-div, digits-mod, mod-mul}
 use lib.IntN.{ℤ, pos, negsuc, _*ℤ_, negℤ, natAbs}
-use lib.Signed.{shrZ, ltZ}
+use lib.Signed.{ltZ}
 use mir.Syntax.{Width, w16, w32}
-use mir.Val.{SFits, Fits, bits, hbits, ofZ, toZ}
+use mir.Val.{SFits, bits, hbits, ofZ, toZ}
 use mir.Facts.{toZ-ofZ, toZ-pos, toZ-neg, sfits-toZ}
 use mir.ValLaws.{half-full}
 use Rattle.integers.specs.Halves.{P, N, zar, mem, le-or-lt}

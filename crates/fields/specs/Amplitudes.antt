@@ -21,9 +21,10 @@ use Rattle.standard.specs.Arithmetic.{clip, modulo, keep, plus, within, _>>_, _
 use Rattle.standard.specs.Tables.{_at_}
 use Rattle.standard.specs.Rpe.{exponent, xmaxc}
 use Rattle.standard.specs.House.{fit}
+use Rattle.arithmetic.specs.Within.{within-yes, within-is}
 use Rattle.arithmetic.specs.Clip.{plus-plain, abs-clip}
 use Rattle.arithmetic.specs.Shift.{keep-plain}
-use Rattle.fields.specs.Fit.{within-yes, within-is, fit-yes}
+use Rattle.fields.specs.Fit.{fit-yes}
 
 -- ---- xmax
 

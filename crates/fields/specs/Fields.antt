@@ -15,9 +15,10 @@ use Rattle.standard.specs.Tables.{LARc-bits}
 use Rattle.standard.specs.Frame.{Subframe, Frame, sub-words, words, sub-widths, widths}
 use Rattle.standard.specs.Coder.{Coder, analysis, sub-coded, sub-step, coded}
 use Rattle.standard.specs.House.{fit, fits}
+use Rattle.arithmetic.specs.Within.{within-yes}
 use Rattle.lengths.specs.Subframes.{full, found-lag, sub-coded-pulses, sub-coded-lag}
 use Rattle.lengths.specs.Frames.{FrameSizes, sub-words-sized, coded-frame-sizes}
-use Rattle.fields.specs.Fit.{within-yes, fit-yes, all-fit, same-width, joined}
+use Rattle.fields.specs.Fit.{fit-yes, all-fit, same-width, joined}
 use Rattle.fields.specs.Ratios.{ratios-fit}
 use Rattle.fields.specs.Gains.{gain-in}
 use Rattle.fields.specs.Amplitudes.{peak-in, xmaxc-fits}

@@ -1,26 +1,16 @@
--- What the tests of a range and of a field say, for `omega`; and the test of several fields.
+-- What the test of a field says, for `omega`; and the test of several fields.
 use Prim.Native.Nat.{ℕ, _^_, _<_}
 use mathlib.Core.Path.{_≡_, sym}
-use mathlib.Core.Bool.{Bool, true, true≢false, and-eq-true-iff}
+use mathlib.Core.Bool.{Bool, true, true≢false}
 use mathlib.Core.List.{List, _++_, zipWith}
 use native.Mathlib.Omega.{arith}
 use lib.IntN.{ℤ, pos, negsuc}
 use lib.ListN.{length, replicate}
-use lib.Signed.{leZ}
 use borrow.Author.Tests.{ltb-true, lt-ltb}
 use Rattle.integers.specs.Halves.{P, N}
 use Rattle.lists.specs.Tab.{zip-append, zip-replicate}
 use Rattle.lists.specs.Every.{every, every-append, every-map}
-use Rattle.standard.specs.Arithmetic.{within}
 use Rattle.standard.specs.House.{fit}
-
--- a number that is between the two ends is within the range
-pub within-yes : (least most z : ℤ) → leZ least z ≡ true → leZ z most ≡ true → within least most z ≡ true
-within-yes least most z l m = rw (l, m)
-
--- and one within the range is between them
-pub within-is : (least most z : ℤ) → within least most z ≡ true → (leZ least z ≡ true) × (leZ z most ≡ true)
-within-is least most z h = and-eq-true-iff (leZ least z) (leZ z most) .0 h
 
 -- a number that is not negative and below the field's limit fits
 pub fit-yes : (width : ℕ) (z : ℤ) → P z < 2 ^ width → N z ≡ 0 → fit width z ≡ true

@@ -23,9 +23,10 @@ use Rattle.standard.specs.Arithmetic.{clip, modulo, keep, plus, minus, within, 
 use Rattle.standard.specs.Tables.{_at_, NRFAC}
 use Rattle.standard.specs.Rpe.{filtered, weighted, Mc, grid, exponent, xmaxc, Amplitude, mantissa, amplitude, xMc}
 use Rattle.standard.specs.House.{fit}
+use Rattle.arithmetic.specs.Within.{within-is}
 use Rattle.arithmetic.specs.Clip.{clip-is, plus-clip, abs-clip}
 use Rattle.arithmetic.specs.Shift.{keep-fits, shl-exact}
-use Rattle.fields.specs.Fit.{within-is, fit-yes, fit-is}
+use Rattle.fields.specs.Fit.{fit-yes, fit-is}
 use Rattle.fields.specs.Amplitudes.{peak-in, peak-covers, top, top-covers, xmaxc-fits}
 
 -- ---- the grid

@@ -1,5 +1,5 @@
 -- A frame, the two ends of the codec and their calls: what they hold has its length, and keeps it.
-use Prim.Native.Nat.{ℕ, _+_, _*_}
+use Prim.Native.Nat.{ℕ, _+_}
 use mathlib.Core.Path.{_≡_, refl, _∙_}
 use mathlib.Core.Bool.{true}
 use mathlib.Core.List.{List, map, flatten}

@@ -88,3 +88,14 @@ module _ {S A B : Type 0} (step : S → A → S × B) where
     unfolding run
     along-end {s} {i} {out} h p q =
         (rw (drop-of-length-le xs p) at (h .state), rw (take-all i out q, drop-of-length-le xs p, append-nil) at (h .written))
+
+-- two filters that do the same at each step give the same, where the first keeps what the steps need
+pub run-same : {S A B : Type 0} (f g : S → A → S × B) (Q : S → Type 0) (p : A → Bool)
+    → ((s : S) (x : A) → Q s → p x ≡ true → Q (f s x .0) × (f s x ≡ g s x))
+    → (s : S) (xs : List A) → Q s → every p xs ≡ true → run f s xs ≡ run g s xs
+unfolding run
+run-same f g Q p k s [] h e = refl
+run-same f g Q p k s (x ∷ xs) h e =
+    let (e₀, e₁) = every-cons p x xs .0 e in
+    let (q, t) = k s x h e₀ in
+    rw (← t, ← run-same f g Q p k (f s x .0) xs q e₁) refl

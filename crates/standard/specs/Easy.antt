@@ -5,7 +5,6 @@ use mathlib.Core.Path.{_≡_, refl}
 use mathlib.Core.List.{List, [], _∷_, _++_}
 use lib.IntN.{ℤ, pos}
 use lib.ListN.{replicate}
-use Rattle.standard.specs.Tables.{neg}
 use Rattle.standard.specs.Frame.{Subframe}
 use Rattle.standard.specs.Lpc.{ending, stopped}
 use Rattle.standard.specs.LongTerm.{lag-search, Nc}

@@ -1,6 +1,5 @@
 -- Frames of the vectors, decoded. Written by outside/trials.py.
 use mathlib.Core.Path.{_≡_, refl}
-use mathlib.Core.Option.{some}
 use mathlib.Core.List.{[], _∷_}
 use lib.IntN.{pos}
 use lib.ListN.{replicate}

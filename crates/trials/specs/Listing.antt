@@ -1,10 +1,6 @@
 -- Inputs of the vectors, listed. Written by outside/trials.py.
 use mathlib.Core.Path.{_≡_, refl}
-use mathlib.Core.Option.{some}
 use mathlib.Core.List.{[], _∷_}
-use lib.IntN.{pos}
-use lib.ListN.{replicate}
-use Rattle.standard.specs.Tables.{neg}
 use Rattle.standard.specs.Listing.{text, listing}
 use Rattle.standard.specs.Opened.{opened}
 

@@ -5,7 +5,7 @@ use mathlib.Core.List.{[], _∷_}
 use lib.IntN.{pos}
 use lib.ListN.{replicate}
 use Rattle.standard.specs.Tables.{neg}
-use Rattle.standard.specs.Lpc.{silent, stopped, complete}
+use Rattle.standard.specs.Lpc.{stopped, complete}
 use Rattle.standard.specs.House.{rule, found}
 use Rattle.standard.specs.Answers.{encode}
 use Rattle.standard.specs.Opened.{opened}

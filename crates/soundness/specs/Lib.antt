@@ -1,0 +1,4 @@
+pub mod Ranges
+pub mod Decay
+pub mod Offset
+pub mod States
