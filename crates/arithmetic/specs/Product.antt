@@ -8,17 +8,17 @@ use mir.Syntax.{w16, w32}
 use mir.Val.{SFits}
 use Rattle.integers.specs.Halves.{P, N, apart, le-or-lt, zar, know}
 use Rattle.integers.specs.Sums.{add-is, mul-in, shr-is}
-use Rattle.standard.specs.Arithmetic.{down, mult, mult-r, L-mult}
+use Rattle.standard.specs.Arithmetic.{_>>_, mult, mult-r, L-mult}
 use Rattle.arithmetic.specs.Clip.{clip-is, clip-fits, clip-plain}
 
 module _ (a b : ℤ) where
   pub mult-fits : SFits w16 (mult a b)
   unfolding mult
-  mult-fits = clip-fits w16 (down (a *ℤ b) 15)
+  mult-fits = clip-fits w16 ((a *ℤ b) >> 15)
 
   pub mult-r-fits : SFits w16 (mult-r a b)
   unfolding mult-r
-  mult-r-fits = clip-fits w16 (down (a *ℤ b +ℤ pos 16384) 15)
+  mult-r-fits = clip-fits w16 ((a *ℤ b +ℤ pos 16384) >> 15)
 
   pub L-mult-fits : SFits w32 (L-mult a b)
   unfolding L-mult
@@ -28,11 +28,11 @@ module _ (a b : ℤ) where
   module _ (B : ℕ) (h : P (a *ℤ b) + N (a *ℤ b) ≤ B * 32768) where
     pub mult-in : P (mult a b) + N (mult a b) ≤ B
     unfolding mult
-    mult-in = omega (arith, apart (mult a b), shr-is (a *ℤ b) 32768 (omega arith), clip-is w16 (down (a *ℤ b) 15))
+    mult-in = omega (arith, apart (mult a b), shr-is (a *ℤ b) 32768 (omega arith), clip-is w16 ((a *ℤ b) >> 15))
 
     pub mult-r-in : P (mult-r a b) + N (mult-r a b) ≤ B
     unfolding mult-r
-    mult-r-in = omega (arith, apart (mult-r a b), add-is (a *ℤ b) (pos 16384), shr-is (a *ℤ b +ℤ pos 16384) 32768 (omega arith), clip-is w16 (down (a *ℤ b +ℤ pos 16384) 15))
+    mult-r-in = omega (arith, apart (mult-r a b), add-is (a *ℤ b) (pos 16384), shr-is (a *ℤ b +ℤ pos 16384) 32768 (omega arith), clip-is w16 ((a *ℤ b +ℤ pos 16384) >> 15))
 
   -- and its double within twice its bound
   pub L-mult-in : (B : ℕ) → P (a *ℤ b) + N (a *ℤ b) ≤ B → P (L-mult a b) + N (L-mult a b) ≤ B + B
@@ -48,11 +48,11 @@ module _ (a b : ℤ) where
         (λ l. mul-in 32768 32767 a b (omega (arith, know f)) (omega (arith, know g)))
         (le-or-lt (N a) 32767)
 
-    pub mult-plain : mult a b ≡ down (a *ℤ b) 15
+    pub mult-plain : mult a b ≡ (a *ℤ b) >> 15
     unfolding mult
     mult-plain = clip-plain (omega (zar, below, shr-is (a *ℤ b) 32768 (omega arith)))
 
-    pub mult-r-plain : mult-r a b ≡ down (a *ℤ b +ℤ pos 16384) 15
+    pub mult-r-plain : mult-r a b ≡ (a *ℤ b +ℤ pos 16384) >> 15
     unfolding mult-r
     mult-r-plain = clip-plain (omega (zar, below, add-is (a *ℤ b) (pos 16384), shr-is (a *ℤ b +ℤ pos 16384) 32768 (omega arith)))
 

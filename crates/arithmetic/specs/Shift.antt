@@ -16,21 +16,21 @@ use mir.ValLaws.{half-full}
 use Rattle.integers.specs.Halves.{P, N, zar, mem, le-or-lt}
 use Rattle.integers.specs.Sums.{shr-is}
 use Rattle.integers.specs.Ranges.{shr-fits, back}
-use Rattle.standard.specs.Arithmetic.{modulo, keep, up, down, shr, shl}
+use Rattle.standard.specs.Arithmetic.{modulo, keep, up, _>>_, shr, shl}
 
 -- ---- to the right
 
 -- what the machine's shift gives
-pub down-bits : (w : Width) (z : ℤ) (n : ℕ) → SFits w z → mem w (down (mem w z) n) ≡ down z n
+pub down-bits : (w : Width) (z : ℤ) (n : ℕ) → SFits w z → mem w (mem w z >> n) ≡ z >> n
 down-bits w z n f = rw (back f) (back (shr-fits (2 ^ n) f))
 
 -- a shift by all the bits but the sign, or by more
-pub down-all : (w : Width) (z : ℤ) (n : ℕ) → SFits w z → hbits w ≤ n → down z n ≡ down z (hbits w)
+pub down-all : (w : Width) (z : ℤ) (n : ℕ) → SFits w z → hbits w ≤ n → z >> n ≡ z >> hbits w
 down-all w (pos a) n f h = ap pos (div-eq-of-lt (omega (arith, f .sfits, pow-mono h)) ∙ sym (div-eq-of-lt (f .sfits)))
 down-all w (negsuc a) n f h = ap negsuc (div-eq-of-lt (omega (arith, f .sfits, pow-mono h)) ∙ sym (div-eq-of-lt (f .sfits)))
 
 -- a bounded value, shifted right, is bounded
-pub down-in : (z : ℤ) (n B : ℕ) → P z ≤ 2 ^ n * B → N z ≤ 2 ^ n * B → (P (down z n) ≤ B) × (N (down z n) ≤ B)
+pub down-in : (z : ℤ) (n B : ℕ) → P z ≤ 2 ^ n * B → N z ≤ 2 ^ n * B → (P (z >> n) ≤ B) × (N (z >> n) ≤ B)
 down-in z n B p q =
     let r = shr-is z (2 ^ n) (pow-pos n) in
     (rw (r .0) (div-le-of-le-mul (2 ^ n) p), rw (r .1) (le-of-suc-le-suc (div-lt-iff-lt-mul (pow-pos n) .1 (omega (arith, pow-pos n)))))
@@ -90,12 +90,12 @@ module _ (w : Width) (x : ℤ) where
   shr-left (pos n) e = absurd (omega zar)
   shr-left (negsuc n) e = refl
 
-  pub shr-right : (n : ℤ) → ltZ n (pos 0) ≡ false → shr w x n ≡ down x (natAbs n)
+  pub shr-right : (n : ℤ) → ltZ n (pos 0) ≡ false → shr w x n ≡ x >> natAbs n
   unfolding shr
   shr-right (pos n) e = refl
   shr-right (negsuc n) e = absurd (omega zar)
 
-  pub shl-right : (n : ℤ) → ltZ n (pos 0) ≡ true → shl w x n ≡ down x (natAbs n)
+  pub shl-right : (n : ℤ) → ltZ n (pos 0) ≡ true → shl w x n ≡ x >> natAbs n
   unfolding shl
   shl-right (pos n) e = absurd (omega zar)
   shl-right (negsuc n) e = refl
@@ -133,7 +133,7 @@ modulo-scaled (negsuc n) {m} {c} h k =
     let d : m ≡ m - suc (n % m) + suc (n % m) = omega (arith, mod-lt n h) in
     rw (e, mod-mul (n * c + (c - 1)) h k, digits-div n b, digits-mod n b) (omega (arith, ap (λ (x : ℕ). x * c) d))
 
-down-top : (l : ℕ) → l < 65536 → down (toZ w32 (l * 65536)) 16 ≡ toZ w16 l
+down-top : (l : ℕ) → l < 65536 → toZ w32 (l * 65536) >> 16 ≡ toZ w16 l
 down-top l h =
     ⊎-elim
     (λ (g : l ≤ 32767). rw (toZ-pos w32 {n = l * 65536} (omega arith), toZ-pos w16 {n = l} (omega arith)) (ap pos (omega arith)))
@@ -141,9 +141,9 @@ down-top l h =
     let k = 65535 - l in
     let a : l ≡ 65536 - suc k = omega arith in
     let b : l * 65536 ≡ 4294967296 - suc (k * 65536 + 65535) = omega arith in
-    ap (λ (x : ℕ). down (toZ w32 x) 16) b ∙ (ap (λ (x : ℤ). down x 16) (toZ-neg w32 (k * 65536 + 65535) (omega arith)) ∙ (ap negsuc (omega arith) ∙ (sym (toZ-neg w16 k (omega arith)) ∙ ap (toZ w16) (sym a)))))
+    ap (λ (x : ℕ). toZ w32 x >> 16) b ∙ (ap (λ (x : ℤ). x >> 16) (toZ-neg w32 (k * 65536 + 65535) (omega arith)) ∙ (ap negsuc (omega arith) ∙ (sym (toZ-neg w16 k (omega arith)) ∙ ap (toZ w16) (sym a)))))
     (le-or-lt l 32767)
 
-pub low-word : (z : ℤ) → down (up w32 z 16) 16 ≡ keep w16 z
+pub low-word : (z : ℤ) → up w32 z 16 >> 16 ≡ keep w16 z
 unfolding keep
 low-word z = rw (modulo-scaled z {m = 65536} {c = 65536} (omega arith) (omega arith)) (down-top (modulo z 65536) (modulo-below z (omega arith)))

@@ -7,13 +7,13 @@ use native.Mathlib.Omega.{arith}
 use lib.IntN.{ℤ, pos, natAbs}
 use lib.ListN.{length, replicate}
 use borrow.Author.Tests.{le-leb}
-use Rattle.lists.specs.Every.{every, every-cons}
+use Rattle.lists.specs.Every.{every, every-cons, every-map}
 use Rattle.lists.specs.Scan.{run-every}
 use Rattle.lists.specs.Lengths.{sized-length}
-use Rattle.standard.specs.Arithmetic.{within}
+use Rattle.standard.specs.LongTerm.{is-lag}
 use Rattle.standard.specs.Tables.{LARc-bits}
 use Rattle.standard.specs.Frame.{Subframe, Frame, sub-words, words, sub-widths, widths}
-use Rattle.standard.specs.Coder.{Coder, analysis, sub-coded, sub-step, coded}
+use Rattle.standard.specs.Coder.{Coder, analysis, sub-coded, sub-step, frame, coded}
 use Rattle.standard.specs.House.{fit, fits}
 use Rattle.arithmetic.specs.Within.{within-yes}
 use Rattle.lengths.specs.Subframes.{full, found-lag, sub-coded-pulses, sub-coded-lag}
@@ -38,11 +38,11 @@ by-parts s a b c d e l = rw (a, b, c, d) (same-width 13 3 (s .xMc) l e)
 
 module _ (dp d : List ℤ) where
   -- every codeword that the coder gives for a sub-frame fits, whatever dp and d are
-  pub sub-coded-fits : sub-fits (sub-coded dp d) ≡ true
+  pub sub-coded-fits : sub-fits (sub-coded dp d .codes) ≡ true
   unfolding sub-coded
   sub-coded-fits =
-      by-parts (sub-coded dp d)
-      (fit-yes 7 (sub-coded dp d .Nc) (omega (arith, found-lag d dp)) refl)
+      by-parts (sub-coded dp d .codes)
+      (fit-yes 7 (sub-coded dp d .codes .Nc) (omega (arith, found-lag d dp)) refl)
       (fit-yes 2 _ (suc-le-suc-iff .1 (gain-in _ _)) refl)
       (fit-yes 2 _ (suc-le-suc-iff .1 (grid-in _)) refl)
       (xmaxc-fits _ (peak-in _))
@@ -50,10 +50,10 @@ module _ (dp d : List ℤ) where
       (sub-coded-pulses dp d)
 
   -- and the lag is from 40 to 120
-  pub sub-coded-within : within (pos 40) (pos 120) (sub-coded dp d .Nc) ≡ true
+  pub sub-coded-within : is-lag (sub-coded dp d .codes .Nc) ≡ true
   unfolding sub-coded
   sub-coded-within =
-      let n = natAbs (sub-coded dp d .Nc) in
+      let n = natAbs (sub-coded dp d .codes .Nc) in
       let l = sub-coded-lag dp d in
       within-yes (pos 40) (pos 120) (pos n) (le-leb 40 n (l .least)) (le-leb n 120 (l .most))
 
@@ -81,11 +81,12 @@ frame-fits f s h k =
 
 module _ (c : Coder) (sop : List ℤ) where
   -- every codeword fits its field
-  pub coded-fits : fits (words (coded c sop .1 .frame)) ≡ true
-  unfolding coded analysis sub-step
-  coded-fits = frame-fits (coded c sop .1 .frame) (coded-frame-sizes c sop) (ratios-fit _) (run-every sub-step sub-fits sub-coded-fits (c .dp) _)
+  pub coded-fits : fits (words (frame (coded c sop .1))) ≡ true
+  unfolding coded frame analysis sub-step
+  coded-fits = frame-fits (frame (coded c sop .1)) (coded-frame-sizes c sop) (ratios-fit _)
+      (rw every-map (run-every sub-step (λ s. sub-fits (s .codes)) sub-coded-fits (c .dp) _))
 
   -- every lag is from 40 to 120
-  pub coded-lags : every (λ f. within (pos 40) (pos 120) (f .Nc)) (coded c sop .1 .frame .subframes) ≡ true
-  unfolding coded sub-step
-  coded-lags = run-every sub-step (λ f. within (pos 40) (pos 120) (f .Nc)) sub-coded-within (c .dp) _
+  pub coded-lags : every (λ f. is-lag (f .Nc)) (frame (coded c sop .1) .subframes) ≡ true
+  unfolding coded frame sub-step
+  coded-lags = rw every-map (run-every sub-step (λ s. is-lag (s .codes .Nc)) sub-coded-within (c .dp) _)

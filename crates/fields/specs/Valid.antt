@@ -15,7 +15,7 @@ use Rattle.lists.specs.Every.{every, every-cons}
 use Rattle.lists.specs.Lengths.{sized-length}
 use Rattle.standard.specs.Arithmetic.{modulo}
 use Rattle.standard.specs.Frame.{Subframe, Frame, sub-words, words, places, widths, valid, sub-received, received}
-use Rattle.standard.specs.Coder.{Coder, coded}
+use Rattle.standard.specs.Coder.{Coder, frame, coded}
 use Rattle.standard.specs.Decoder.{Decoder}
 use Rattle.standard.specs.House.{fit, fits, decode-refusal}
 use Rattle.standard.specs.Answers.{decode}
@@ -121,5 +121,5 @@ received-words f s h =
     rw (valid-own (words f) (words-length f s) h, take-at (f .LARc) rest 8 (s .LARc), rw (s .LARc, s .subframes) at ss)
 
 -- so is a coded frame
-pub received-coded : (c : Coder) (sop : List ℤ) → received (words (coded c sop .1 .frame)) ≡ coded c sop .1 .frame
-received-coded c sop = received-words (coded c sop .1 .frame) (coded-frame-sizes c sop) (coded-fits c sop)
+pub received-coded : (c : Coder) (sop : List ℤ) → received (words (frame (coded c sop .1))) ≡ frame (coded c sop .1)
+received-coded c sop = received-words (frame (coded c sop .1)) (coded-frame-sizes c sop) (coded-fits c sop)

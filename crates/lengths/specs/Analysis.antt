@@ -1,13 +1,15 @@
 -- 4.2.1 to 4.2.10: the lengths of what is made of a frame of samples.
-use Prim.Native.Nat.{ℕ, zero, suc, _≤_, min}
+use Prim.Native.Nat.{ℕ, zero, suc, _≤_, _<_, min}
 use mathlib.Core.Path.{_≡_, refl, _∙_}
-use mathlib.Core.Bool.{true}
+use mathlib.Core.Bool.{Bool, true, false, _&&_}
 use mathlib.Core.List.{List, [], _∷_, map, zip, zipWith, flatten}
 use native.Mathlib.Nat.{suc-le-suc-iff}
 use native.Mathlib.Omega.{arith}
 use lib.IntN.{ℤ, pos}
+use lib.Dec.{leb, eqb}
 use lib.Signed.{ltZ}
 use lib.ListN.{length, length-map, length-append, length-replicate}
+use borrow.Author.Tests.{eqb-false, le-leb}
 use Rattle.lists.specs.First.{by-cond}
 use Rattle.lists.specs.Tab.{tab-length, zip-length}
 use Rattle.lists.specs.Scan.{run, run-length, run-keeps}
@@ -16,7 +18,7 @@ use Rattle.lists.specs.Lengths.{sized, sized-yes, sized-length, pairs-length}
 use Rattle.standard.specs.Arithmetic.{is-zero, abs}
 use Rattle.standard.specs.Tables.{_at_}
 use Rattle.standard.specs.Preprocessing.{downscaled}
-use Rattle.standard.specs.Lpc.{if-scaled, scaled, rescaled, L-ACF, ACF, measured, schur, r, ratio-codes}
+use Rattle.standard.specs.Lpc.{if-scaled, scaled, rescaled, L-ACF, ACF, Ending, silent, stopped, complete, measured, schur, ending, r, ratio-codes}
 use Rattle.standard.specs.ShortTerm.{ratios, stretches, rp, stretch, coefficients, section, analysed}
 use Rattle.standard.specs.Coder.{Coder, analysis}
 
@@ -65,6 +67,21 @@ measured-length (suc n) P0 (P1 ∷ P) K =
 pub schur-length : (L-acf : List ℤ) → length (schur L-acf) ≤ 8
 unfolding schur
 schur-length L-acf = by-cond (λ t. length t ≤ 8) (is-zero (L-acf at 0)) {x = []} (λ h. omega arith) (λ h. measured-length 8 _ _ _)
+
+-- the test that a stop has a step's number, 1 to 8
+unfoldable pub step-number : Ending → Bool
+step-number silent = true
+step-number (stopped n) = leb 1 n && leb n 8
+step-number complete = true
+
+-- no recursion ends in another
+pub ending-number : (L-acf : List ℤ) → step-number (ending L-acf) ≡ true
+unfolding ending step-number
+ending-number L-acf =
+    let n = length (schur L-acf) in
+    let short : eqb n 8 ≡ false → n < 8 = λ e. let d : ¬ (n ≡ 8) = eqb-false n 8 e in omega (arith, schur-length L-acf) in
+    by-cond (λ e. step-number e ≡ true) (is-zero (L-acf at 0)) (λ _. refl)
+    (λ _. by-cond (λ e. step-number e ≡ true) (eqb n 8) (λ _. refl) (λ e. rw (le-leb 1 (suc n) (omega arith), le-leb (suc n) 8 (short e))))
 
 -- r[1..8] are eight, wherever it stopped
 pub r-length : (L-acf : List ℤ) → length (r L-acf) ≡ 8

@@ -10,7 +10,7 @@ use Rattle.standard.specs.House.{encode-refusal, decode-refusal}
 use Rattle.standard.specs.Answers.{Encoded, encode, Decoded, decode}
 use Rattle.refusals.specs.Rows.{by-answer}
 use Rattle.refusals.specs.Calls.{encode-allowed, decode-allowed}
-use Rattle.lengths.specs.Frames.{CoderSizes, coded-frame-sizes, coded-words-length, coded-sizes}
+use Rattle.lengths.specs.Frames.{CoderSizes, coded-subframes, coded-words-length, coded-sizes}
 use Rattle.lengths.specs.Frames.{DecoderSizes, decoded-sizes, decoded-length, FrameSizes, received-sizes}
 
 module _ (c : Coder) (samples codewords : List ℤ) where
@@ -26,7 +26,7 @@ module _ (c : Coder) (samples codewords : List ℤ) where
   unfolding encode
   encode-marks-length =
       by-answer (λ (t : Encoded). length (t .marks) ≡ 4) (encode-refusal c samples codewords)
-      (λ e. simp length-map (coded-frame-sizes c samples .subframes)) (λ k. refl)
+      (λ e. simp (length-map, coded-subframes)) (λ k. refl)
 
   -- and keeps the coder's sizes
   pub encode-sizes : CoderSizes c → CoderSizes (encode c samples codewords .state)

@@ -1,7 +1,7 @@
 -- 4.3: the lengths of what is decoded, and the range of the lag in use.
 use Prim.Native.Nat.{suc, _*_, min}
 use mathlib.Core.Path.{_≡_, refl, _∙_}
-use mathlib.Core.Bool.{Bool, true, and-eq-true-iff}
+use mathlib.Core.Bool.{true, and-eq-true-iff}
 use mathlib.Core.List.{List, [], foldr, flatten}
 use native.Mathlib.Omega.{arith}
 use lib.IntN.{ℤ, pos, natAbs}
@@ -12,37 +12,33 @@ use Rattle.lists.specs.First.{by-cond}
 use Rattle.lists.specs.Scan.{run, run-length, run-keeps}
 use Rattle.lists.specs.Every.{every, every-all}
 use Rattle.lists.specs.Lengths.{sized, sized-yes, sized-length, flatten-sized, pairs-length, foldr-grows}
-use Rattle.standard.specs.Arithmetic.{within}
+use Rattle.standard.specs.LongTerm.{is-lag}
 use Rattle.standard.specs.Frame.{Subframe}
 use Rattle.standard.specs.Decoder.{Nr, sub-decoded, inverse-section, synthesised}
 use Rattle.lengths.specs.Subframes.{Lag, full, reconstructed-length, updated-length}
 
 -- ---- 4.3.2 long term synthesis filtering: the lag
 
--- the test that a number is a lag
-abbrev pub in-range : ℤ → Bool
-in-range = within (pos 40) (pos 120)
-
 -- a number that passes it is one
-pub range-lag : (n : ℤ) → in-range n ≡ true → Lag (natAbs n)
+pub range-lag : (n : ℤ) → is-lag n ≡ true → Lag (natAbs n)
 range-lag n h =
     let (l, m) = and-eq-true-iff (leZ (pos 40) n) (leZ n (pos 120)) .0 h in
     omega (zar, abs-is n, apart n)
 
 -- the lag in use is one where the remembered one is, whatever is received
-pub Nr-range : (nrp Ncr : ℤ) → in-range nrp ≡ true → in-range (Nr nrp Ncr) ≡ true
+pub Nr-range : (nrp Ncr : ℤ) → is-lag nrp ≡ true → is-lag (Nr nrp Ncr) ≡ true
 unfolding Nr
-Nr-range nrp Ncr h = by-cond (λ n. in-range n ≡ true) (in-range Ncr) (λ e. e) (λ e. h)
+Nr-range nrp Ncr h = by-cond (λ n. is-lag n ≡ true) (is-lag Ncr) (λ e. e) (λ e. h)
 
 -- so it is after a sub-frame
-pub sub-decoded-range : (s : List ℤ × ℤ) (f : Subframe) → in-range (s .1) ≡ true → in-range (sub-decoded s f .0 .1) ≡ true
+pub sub-decoded-range : (s : List ℤ × ℤ) (f : Subframe) → is-lag (s .1) ≡ true → is-lag (sub-decoded s f .0 .1) ≡ true
 unfolding sub-decoded
 sub-decoded-range s f h = Nr-range (s .1) (f .Nc) h
 
 -- and after any number of them
-pub sub-decodes-range : (s : List ℤ × ℤ) (fs : List Subframe) → in-range (s .1) ≡ true → in-range (run sub-decoded s fs .0 .1) ≡ true
+pub sub-decodes-range : (s : List ℤ × ℤ) (fs : List Subframe) → is-lag (s .1) ≡ true → is-lag (run sub-decoded s fs .0 .1) ≡ true
 sub-decodes-range s fs h =
-    run-keeps sub-decoded (λ s. in-range (s .1) ≡ true) (λ f. true) (λ new. true) (λ s f k _. (sub-decoded-range s f k, refl))
+    run-keeps sub-decoded (λ s. is-lag (s .1) ≡ true) (λ f. true) (λ new. true) (λ s f k _. (sub-decoded-range s f k, refl))
     s fs h (every-all _ (λ f. refl) fs) .0
 
 -- ---- 4.3.2 the samples
@@ -50,7 +46,7 @@ sub-decodes-range s fs h =
 -- what a sub-frame starts from: 120 samples of drp, and a lag
 pub record Start (s : List ℤ × ℤ) : Type 0 where
   pub drp : length (s .0) ≡ 120
-  pub nrp : in-range (s .1) ≡ true
+  pub nrp : is-lag (s .1) ≡ true
 
 module _ (s : List ℤ × ℤ) (f : Subframe) (h : Start s) (p : length (f .xMc) ≡ 13) where
   -- a sub-frame of thirteen pulses gives 40 samples

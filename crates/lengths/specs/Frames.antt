@@ -16,7 +16,7 @@ use Rattle.lists.specs.Lengths.{sized, sized-yes, sized-length, flatten-sized, 
 use Rattle.standard.specs.Tables.{LARc-bits}
 use Rattle.standard.specs.Frame.{Subframe, Frame, sub-words, words, places, sub-widths, widths, valid, sub-received, received}
 use Rattle.standard.specs.ShortTerm.{ratios}
-use Rattle.standard.specs.Coder.{Coder, analysis, coded}
+use Rattle.standard.specs.Coder.{Coder, analysis, frame, coded}
 use Rattle.standard.specs.Decoder.{Decoder, decoded}
 use Rattle.standard.specs.House.{home-coder, home-decoder, sound-decoder}
 use Rattle.lengths.specs.Analysis.{ratios-length, coefficients-length, coefficients-sized}
@@ -88,15 +88,20 @@ module _ (c : Coder) (s : List ℤ) where
   pub parts-sized : length s ≡ 160 → every (sized 40) (cut (replicate 4 40) (analysis c s .d)) ≡ true
   parts-sized h = cut-sized 4 40 (analysis c s .d) (omega (arith, analysis-d-length c s))
 
-  -- the frame has its sizes, whatever the coder and the samples are
-  pub coded-frame-sizes : FrameSizes (coded c s .1 .frame)
+  -- there are four sub-frames
+  pub coded-subframes : length (coded c s .1 .subframes) ≡ 4
   unfolding coded
+  coded-subframes = simp (run-length, cut-count)
+
+  -- the frame has its sizes, whatever the coder and the samples are
+  pub coded-frame-sizes : FrameSizes (frame (coded c s .1))
+  unfolding coded frame
   coded-frame-sizes =
-      record { LARc = analysis-codes-length c s; subframes = simp (run-length, cut-count); pulses = sub-steps-full (c .dp) _ }
+      record { LARc = analysis-codes-length c s; subframes = simp (length-map, coded-subframes); pulses = rw every-map (sub-steps-full (c .dp) _) }
 
   -- so it is 76 codewords
-  pub coded-words-length : length (words (coded c s .1 .frame)) ≡ 76
-  coded-words-length = words-length (coded c s .1 .frame) coded-frame-sizes
+  pub coded-words-length : length (words (frame (coded c s .1))) ≡ 76
+  coded-words-length = words-length (frame (coded c s .1)) coded-frame-sizes
 
   -- the coder keeps its sizes, whatever the samples are
   pub coded-sizes : CoderSizes c → CoderSizes (coded c s .0)

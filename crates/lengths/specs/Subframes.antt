@@ -8,7 +8,7 @@ use lib.IntN.{ℤ, pos, natAbs}
 use lib.ListN.{length, length-map, length-append, length-take, length-drop, length-replicate}
 use Rattle.lists.specs.Best.{best-within}
 use Rattle.lists.specs.Tab.{tab-length, zip-length}
-use Rattle.lists.specs.Scan.{run, run-keeps}
+use Rattle.lists.specs.Scan.{run, run-keeps, run-every}
 use Rattle.lists.specs.Every.{every, every-all, every-map}
 use Rattle.lists.specs.Lengths.{sized, sized-yes, flatten-sized}
 use Rattle.standard.specs.Arithmetic.{sub}
@@ -107,17 +107,17 @@ updated-length dp new h k = simp (length-append, length-drop) (omega arith)
 
 module _ (dp d : List ℤ) where
   -- the lag is from 40 to 120, whatever d and dp are
-  pub sub-coded-lag : Lag (natAbs (sub-coded dp d .Nc))
+  pub sub-coded-lag : Lag (natAbs (sub-coded dp d .codes .Nc))
   unfolding sub-coded
   sub-coded-lag = found-lag d dp
 
   -- and there are thirteen pulses
-  pub sub-coded-pulses : length (sub-coded dp d .xMc) ≡ 13
+  pub sub-coded-pulses : length (sub-coded dp d .codes .xMc) ≡ 13
   unfolding sub-coded
   sub-coded-pulses = xMc-length _ _ ∙ grid-length _ _
 
   -- the step gives that sub-frame
-  pub sub-step-pulses : length (sub-step dp d .1 .xMc) ≡ 13
+  pub sub-step-pulses : length (sub-step dp d .1 .codes .xMc) ≡ 13
   unfolding sub-step
   sub-step-pulses = sub-coded-pulses
 
@@ -125,7 +125,7 @@ module _ (dp d : List ℤ) where
   pub sub-step-length : length dp ≡ 120 → length (sub-step dp d .0) ≡ 120
   unfolding sub-step
   sub-step-length h =
-      let f = sub-coded dp d in
+      let f = sub-coded dp d .codes in
       updated-length dp _ h (reconstructed-length (natAbs (f .Nc)) f dp sub-coded-lag sub-coded-pulses h)
 
 -- the test that a sub-frame has thirteen pulses
@@ -134,10 +134,9 @@ full f = sized 13 (f .xMc)
 
 module _ (dp : List ℤ) (ds : List (List ℤ)) where
   -- of any number of sub-frames each has thirteen
-  pub sub-steps-full : every full (run sub-step dp ds .1) ≡ true
+  pub sub-steps-full : every (λ s. full (s .codes)) (run sub-step dp ds .1) ≡ true
   sub-steps-full =
-      run-keeps sub-step (λ dp. Unit) (λ d. true) full (λ dp d _ _. (tt, sized-yes 13 (sub-step dp d .1 .xMc) (sub-step-pulses dp d)))
-      dp ds tt (every-all _ (λ d. refl) ds) .1
+      run-every sub-step (λ s. full (s .codes)) (λ dp d. sized-yes 13 (sub-step dp d .1 .codes .xMc) (sub-step-pulses dp d)) dp ds
 
   -- and dp stays at 120 over all of them
   pub sub-steps-length : length dp ≡ 120 → length (run sub-step dp ds .0) ≡ 120

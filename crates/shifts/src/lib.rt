@@ -1,9 +1,11 @@
 // 4.1: both shifts, of a word and of a long word. To the right they round down; to the left they keep the low bits; a negative
 // count shifts the other way.
 ghost use mathlib.Core.Path.{_≡_};
+ghost use Prim.Native.Nat.{_^_};
 ghost use lib.IntN.{natAbs};
+ghost use lib.Signed.{shrZ};
 ghost use mir.Syntax.{w16, w32};
-ghost use Rattle.standard.specs.Arithmetic.{down, up, shr, shl};
+ghost use Rattle.standard.specs.Arithmetic.{up, shr, shl};
 
 // The size of a count.
 fn size(n: i16) -> u16
@@ -18,7 +20,7 @@ fn size(n: i16) -> u16
 
 // From 15 on only the sign is left.
 fn down_word(x: i16, n: u16) -> i16
-    ensures { λ r. ⌜ r ≡ down x n ⌝ }
+    ensures { λ r. ⌜ r ≡ shrZ x (2 ^ n) ⌝ }
 {
     if n < 15 { x >> n } else { x >> 15 }
 }
@@ -31,7 +33,7 @@ fn up_word(x: i16, n: u16) -> i16
 }
 
 fn down_long(x: i32, n: u16) -> i32
-    ensures { λ r. ⌜ r ≡ down x n ⌝ }
+    ensures { λ r. ⌜ r ≡ shrZ x (2 ^ n) ⌝ }
 {
     if n < 31 { x >> n } else { x >> 31 }
 }

@@ -6,7 +6,7 @@ use lib.IntN.{ℤ}
 use lib.ListN.{replicate}
 use Rattle.standard.specs.Frame.{words, received}
 use Rattle.standard.specs.Lpc.{Ending}
-use Rattle.standard.specs.Coder.{Coder, coded}
+use Rattle.standard.specs.Coder.{Coder, frame, coded}
 use Rattle.standard.specs.Decoder.{Decoder, decoded}
 use Rattle.standard.specs.Packed.{packed, unpacked}
 use Rattle.standard.specs.House.{Mark, mark, encode-refusal, decode-refusal, pack-refusal, unpack-refusal}
@@ -27,9 +27,8 @@ pub record Encoded : Type 0 where
 unfoldable pub encode : Coder → List ℤ → List ℤ → Encoded
 encode c samples codewords =
     let t = coded c samples in
-    let f = t .1 .frame in
     answer (encode-refusal c samples codewords)
-    (record { number = 0; state = t .0; ending = some (t .1 .ending); marks = map (λ s. some (mark s)) (f .subframes); codewords = words f })
+    (record { number = 0; state = t .0; ending = some (t .1 .ending); marks = map (λ s. some (mark s)) (t .1 .subframes); codewords = words (frame (t .1)) })
     (λ n. record { number = n; state = c; ending = none; marks = replicate 4 none; codewords = codewords })
 
 pub record Decoded : Type 0 where

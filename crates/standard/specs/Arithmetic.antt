@@ -32,26 +32,23 @@ low = keep w16
 abbrev pub up : Width → ℤ → ℕ → ℤ
 up w z n = keep w (z *ℤ pos (2 ^ n))
 
--- n bits to the right with sign extension, for n ≥ 0: rounded down
-abbrev pub down : ℤ → ℕ → ℤ
-down z n = shrZ z (2 ^ n)
-
--- x >> n and, of a word, x << n, as 001 writes them, for n ≥ 0
-infixl 60 _>>_
-abbrev pub _>>_ : ℤ → ℕ → ℤ
-x >> n = down x n
-
+-- the same of a word, as 001 writes it
 infixl 60 _<<_
 abbrev pub _<<_ : ℤ → ℕ → ℤ
-x << n = up w16 x n
+z << n = up w16 z n
+
+-- n bits to the right with sign extension, for n ≥ 0: rounded down
+infixl 60 _>>_
+abbrev pub _>>_ : ℤ → ℕ → ℤ
+z >> n = shrZ z (2 ^ n)
 
 -- z << n and z >> n of a number of width w; "if n is less than 0, this operation becomes" the other one, by −n
 unfoldable pub shl : Width → ℤ → ℤ → ℤ
 shl w z (pos n) = up w z n
-shl w z (negsuc n) = down z (suc n)
+shl w z (negsuc n) = z >> (suc n)
 
 unfoldable pub shr : Width → ℤ → ℤ → ℤ
-shr w z (pos n) = down z n
+shr w z (pos n) = z >> n
 shr w z (negsuc n) = up w z (suc n)
 
 abbrev pub is-zero : ℤ → Bool
@@ -76,10 +73,10 @@ sub = minus w16
 
 -- the clip is met by the two least words alone, which give 32767
 unfoldable pub mult : ℤ → ℤ → ℤ
-mult a b = clip w16 (down (a *ℤ b) 15)
+mult a b = clip w16 ((a *ℤ b) >> 15)
 
 unfoldable pub mult-r : ℤ → ℤ → ℤ
-mult-r a b = clip w16 (down (a *ℤ b +ℤ pos 16384) 15)
+mult-r a b = clip w16 ((a *ℤ b +ℤ pos 16384) >> 15)
 
 unfoldable pub abs : ℤ → ℤ
 abs a = clip w16 (pos (natAbs a))

@@ -1,9 +1,10 @@
 -- 4.2: the coder, its procedures in their order.
-use mathlib.Core.List.{List, zip}
+use mathlib.Core.List.{List, map, zip}
 use lib.IntN.{ℤ, pos, natAbs}
 use lib.ListN.{replicate}
 use mir.Syntax.{w32}
 use Rattle.lists.specs.Scan.{run}
+use Rattle.lists.specs.Best.{Best}
 use Rattle.lists.specs.Cut.{cut}
 use Rattle.standard.specs.Arithmetic.{shr, sub, peak}
 use Rattle.standard.specs.Frame.{Subframe, Frame}
@@ -13,7 +14,7 @@ use Rattle.standard.specs.ShortTerm.{ratios, coefficients, analysed}
 use Rattle.standard.specs.LongTerm.{scal, lag-search, Nc, L-power, bc, dpp, residual}
 use Rattle.standard.specs.Rpe.{weighted, Mc, grid, xmaxc, amplitude, xMc, reconstructed, updated}
 
--- what the coder keeps in memory for the next frame
+-- what the coder keeps in memory for the next frame; LARpp is LARpp(j − 1) there
 pub record Coder : Type 0 where
   pub z1 : ℤ
   pub L-z2 : ℤ
@@ -47,34 +48,46 @@ analysis c sop =
       d = d .1;
     }
 
--- "Procedure 4.2.11 to 4.2.18 are to be executed four times per frame", on 40 samples of d: the codewords
-unfoldable pub sub-coded : List ℤ → List ℤ → Subframe
+-- what 4.2.11 to 4.2.18 make of 40 samples of d: the codewords, and the search that gave the lag
+pub record Subcoded : Type 0 where
+  pub codes : Subframe
+  pub search : Best
+
+-- "Procedure 4.2.11 to 4.2.18 are to be executed four times per frame"
+unfoldable pub sub-coded : List ℤ → List ℤ → Subcoded
 sub-coded dp d =
-    let found = lag-search d dp in
-    let lag = Nc found in
-    let L-max = shr w32 (found .sum) (sub (pos 6) (scal d)) in
+    let search = lag-search d dp in
+    let lag = Nc search in
+    let L-max = shr w32 (search .sum) (sub (pos 6) (scal d)) in
     let gain = bc L-max (L-power lag dp) in
     let x = weighted (residual d (dpp lag gain dp)) in
     let m = Mc x in
     let xM = grid m x in
     let code = xmaxc (peak xM) in
-    record { Nc = pos lag; bc = pos gain; Mc = pos m; xmaxc = code; xMc = xMc (amplitude code) xM }
+    record { codes = record { Nc = pos lag; bc = pos gain; Mc = pos m; xmaxc = code; xMc = xMc (amplitude code) xM }; search = search }
 
--- and dp after it
-unfoldable pub sub-step : List ℤ → List ℤ → List ℤ × Subframe
+-- with dp after it
+unfoldable pub sub-step : List ℤ → List ℤ → List ℤ × Subcoded
 sub-step dp d =
-    let f = sub-coded dp d in
-    (updated dp (reconstructed (natAbs (f .Nc)) f dp), f)
+    let s = sub-coded dp d in
+    let f = s .codes in
+    (updated dp (reconstructed (natAbs (f .Nc)) f dp), s)
 
--- a frame, and how its recursion ended
+-- what the coder makes of a frame of samples
 pub record Coded : Type 0 where
-  pub frame : Frame
+  pub LARc : List ℤ
   pub ending : Ending
+  pub subframes : List Subcoded
 
+-- its codewords
+unfoldable pub frame : Coded → Frame
+frame c = record { LARc = c .LARc; subframes = map (λ s. s .codes) (c .subframes) }
+
+-- 160 samples: what is kept, and what is made of them
 unfoldable pub coded : Coder → List ℤ → Coder × Coded
 coded c sop =
     let a = analysis c sop in
     let t = run sub-step (c .dp) (cut (replicate 4 40) (a .d)) in
     let n = a .next in
     let next : Coder = record { z1 = n .z1; L-z2 = n .L-z2; mp = n .mp; LARpp = n .LARpp; u = n .u; dp = t .0 } in
-    (next, record { frame = record { LARc = a .LARc; subframes = t .1 }; ending = a .ending })
+    (next, record { LARc = a .LARc; ending = a .ending; subframes = t .1 })

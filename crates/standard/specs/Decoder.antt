@@ -4,9 +4,10 @@ use mathlib.Core.List.{List, [], _∷_, map, zip, foldr, flatten}
 use lib.IntN.{ℤ, pos, natAbs}
 use lib.ListN.{take}
 use Rattle.lists.specs.Scan.{run}
-use Rattle.standard.specs.Arithmetic.{within, add, sub, mult-r}
+use Rattle.standard.specs.Arithmetic.{add, sub, mult-r}
 use Rattle.standard.specs.Frame.{sample, Subframe, Frame}
 use Rattle.standard.specs.ShortTerm.{ratios, coefficients}
+use Rattle.standard.specs.LongTerm.{is-lag}
 use Rattle.standard.specs.Rpe.{reconstructed, updated}
 
 -- what the decoder keeps in memory for the next frame
@@ -19,9 +20,9 @@ pub record Decoder : Type 0 where
 
 -- ---- 4.3.1, 4.3.2 RPE decoding, long term synthesis filtering
 
--- Nr: the received lag, or the remembered one where that is not from 40 to 120
+-- Nr: the received lag, or the remembered one where that is no lag from 40 to 120
 unfoldable pub Nr : ℤ → ℤ → ℤ
-Nr nrp Ncr = cond (within (pos 40) (pos 120) Ncr) Ncr nrp
+Nr nrp Ncr = cond (is-lag Ncr) Ncr nrp
 
 -- one sub-frame: drp[−120..−1] and nrp after it, and drp[0..39]
 unfoldable pub sub-decoded : List ℤ × ℤ → Subframe → (List ℤ × ℤ) × List ℤ

@@ -1,14 +1,14 @@
 -- 01, 'Easy to get wrong': the cases that tell the wrong readings from the right one. The zero frame (ZeroFrame) and the rows worked by
 -- hand (Worked) tell the others.
-use Prim.Native.Nat.{ℕ}
+use Prim.Native.Nat.{ℕ, _-_}
 use mathlib.Core.Path.{_≡_, refl}
 use mathlib.Core.List.{List, [], _∷_, _++_}
 use lib.IntN.{ℤ, pos}
 use lib.ListN.{replicate}
-use Rattle.standard.specs.Frame.{Subframe}
 use Rattle.standard.specs.Lpc.{ending, stopped}
 use Rattle.standard.specs.LongTerm.{lag-search, Nc}
 use Rattle.standard.specs.Rpe.{Mc}
+use Rattle.standard.specs.Coder.{Subcoded}
 use Rattle.standard.specs.House.{mark, rule, found}
 use Rattle.standard.specs.Worked.{lags-used}
 use Rattle.standard.specs.Opened.{opened}
@@ -24,8 +24,12 @@ abbrev pub two-pulses : List ℤ
 two-pulses = zeros 30 ++ (pulse ++ (pos 1000 ∷ zeros 49))
 
 -- a sub-frame with a lag and a gain code
-abbrev pub lag-and-gain : ℕ → ℕ → Subframe
-lag-and-gain lag gain = record { Nc = pos lag; bc = pos gain; Mc = pos 0; xmaxc = pos 0; xMc = zeros 13 }
+abbrev pub lag-and-gain : ℕ → ℕ → Subcoded
+lag-and-gain lag gain =
+    record {
+      codes = record { Nc = pos lag; bc = pos gain; Mc = pos 0; xmaxc = pos 0; xMc = zeros 13 };
+      search = record { at = lag - 40; sum = pos 1 };
+    }
 
 pub record Easy : Type 0 where
   -- lags 50 and 90 tie

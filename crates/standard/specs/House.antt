@@ -8,8 +8,9 @@ use lib.Dec.{eqb, ltb}
 use Rattle.lists.specs.Every.{every}
 use Rattle.standard.specs.Arithmetic.{is-zero, within}
 use Rattle.standard.specs.Tables.{neg}
-use Rattle.standard.specs.Frame.{Subframe, widths}
-use Rattle.standard.specs.Coder.{Coder}
+use Rattle.standard.specs.Frame.{widths}
+use Rattle.standard.specs.LongTerm.{is-lag}
+use Rattle.standard.specs.Coder.{Coder, Subcoded}
 use Rattle.standard.specs.Decoder.{Decoder}
 use Rattle.standard.specs.Packed.{spare}
 
@@ -36,7 +37,7 @@ sound-coder c =
     within (neg 16384) (pos 16380) (c .z1) && within (neg 536740337) (pos 536871409) (c .L-z2 -ℤ pos 32768 *ℤ c .z1)
 
 unfoldable pub sound-decoder : Decoder → Bool
-sound-decoder m = within (pos 40) (pos 120) (m .nrp)
+sound-decoder m = is-lag (m .nrp)
 
 -- ---- 'The steps': the lag mark
 
@@ -45,12 +46,12 @@ pub data Mark : Type 0 where
   found : Mark
 
 -- "rule" when the lag is 40 with gain code 0, else "found"
-unfoldable pub mark : Subframe → Mark
-mark f = cond (eqb (natAbs (f .Nc)) 40 && is-zero (f .bc)) rule found
+unfoldable pub mark : Subcoded → Mark
+mark s = cond (eqb (natAbs (s .codes .Nc)) 40 && is-zero (s .codes .bc)) rule found
 
--- ---- 'Refusal numbers': the table. Rows of what is wrong and its number
+-- ---- 'Refusal numbers': the table. A row is what is wrong, and its number
 
--- "Of several that apply, the lowest is given"; 0 means done
+-- the number of the first row that applies, or 0. The rows of a call stand lowest first: "Of several that apply, the lowest is given"
 unfoldable pub refusal : List (Bool × ℕ) → ℕ
 refusal [] = 0
 refusal ((wrong, n) ∷ rows) = cond wrong n (refusal rows)
@@ -66,15 +67,27 @@ fit width (negsuc n) = false
 unfoldable pub fits : List ℤ → Bool
 fits c = every (λ b. b) (zipWith fit widths c)
 
+abbrev pub samples-row : List ℤ → Bool × ℕ
+samples-row samples = (not-of 160 samples, 1)
+
+abbrev pub codewords-row : List ℤ → Bool × ℕ
+codewords-row codewords = (not-of 76 codewords, 2)
+
+abbrev pub state-row : Bool → Bool × ℕ
+state-row sound = (not sound, 3)
+
+abbrev pub bytes-row : List ℕ → Bool × ℕ
+bytes-row bytes = (not-of 33 bytes, 4)
+
 unfoldable pub encode-refusal : Coder → List ℤ → List ℤ → ℕ
-encode-refusal c samples codewords = refusal ((not-of 160 samples, 1) ∷ (not-of 76 codewords, 2) ∷ (not (sound-coder c), 3) ∷ [])
+encode-refusal c samples codewords = refusal (samples-row samples ∷ codewords-row codewords ∷ state-row (sound-coder c) ∷ [])
 
 unfoldable pub decode-refusal : Decoder → List ℤ → List ℤ → ℕ
-decode-refusal m codewords samples = refusal ((not-of 160 samples, 1) ∷ (not-of 76 codewords, 2) ∷ (not (sound-decoder m), 3) ∷ [])
+decode-refusal m codewords samples = refusal (samples-row samples ∷ codewords-row codewords ∷ state-row (sound-decoder m) ∷ [])
 
 unfoldable pub pack-refusal : List ℤ → List ℕ → ℕ
-pack-refusal codewords bytes = refusal ((not-of 76 codewords, 2) ∷ (not-of 33 bytes, 4) ∷ (not (fits codewords), 5) ∷ [])
+pack-refusal codewords bytes = refusal (codewords-row codewords ∷ bytes-row bytes ∷ (not (fits codewords), 5) ∷ [])
 
 unfoldable pub unpack-refusal : List ℕ → List ℤ → ℕ
 unpack-refusal bytes codewords =
-    refusal ((not-of 76 codewords, 2) ∷ (not-of 33 bytes, 4) ∷ (not (every (eqb 0) (spare bytes)), 6) ∷ [])
+    refusal (codewords-row codewords ∷ bytes-row bytes ∷ (not (every (eqb 0) (spare bytes)), 6) ∷ [])

@@ -12,9 +12,9 @@ use mir.Val.{toZ}
 use Rattle.lists.specs.First.{first}
 use Rattle.lists.specs.Scan.{run}
 use Rattle.lists.specs.Cut.{cut}
-use Rattle.standard.specs.Frame.{Subframe, sub-words}
+use Rattle.standard.specs.Frame.{sub-words}
 use Rattle.standard.specs.Lpc.{Ending, silent, stopped, complete}
-use Rattle.standard.specs.Coder.{Coded, coded}
+use Rattle.standard.specs.Coder.{Subcoded, Coded, coded}
 use Rattle.standard.specs.House.{home-coder, Mark, rule, found, mark}
 
 -- ---- fields
@@ -57,10 +57,10 @@ unfoldable pub header : List ℕ
 header = line (text "RPELTP" ∷ decimal 1 ∷ [])
 
 unfoldable pub F-line : ℕ → Coded → List ℕ
-F-line frame c = line (text "F" ∷ decimal frame ∷ ending-text (c .ending) ∷ map word (c .frame .LARc))
+F-line frame c = line (text "F" ∷ decimal frame ∷ ending-text (c .ending) ∷ map word (c .LARc))
 
-unfoldable pub S-line : ℕ → ℕ → Subframe → List ℕ
-S-line frame n s = line (text "S" ∷ decimal frame ∷ decimal n ∷ mark-text (mark s) ∷ map word (sub-words s))
+unfoldable pub S-line : ℕ → ℕ → Subcoded → List ℕ
+S-line frame n s = line (text "S" ∷ decimal frame ∷ decimal n ∷ mark-text (mark s) ∷ map word (sub-words (s .codes)))
 
 -- f of each element and its number, counted from n
 unfoldable pub numbered : {A : Type 0} → (ℕ → A → List ℕ) → ℕ → List A → List ℕ
@@ -68,14 +68,14 @@ numbered f n [] = []
 numbered f n (x ∷ xs) = f n x ++ numbered f (suc n) xs
 
 unfoldable pub frame-lines : ℕ → Coded → List ℕ
-frame-lines frame c = F-line frame c ++ numbered (S-line frame) 1 (c .frame .subframes)
+frame-lines frame c = F-line frame c ++ numbered (S-line frame) 1 (c .subframes)
 
 -- 160 samples of two bytes
-abbrev frame-bytes : ℕ
+abbrev pub frame-bytes : ℕ
 frame-bytes = 320
 
 -- the lister's limit
-abbrev most-frames : ℕ
+abbrev pub most-frames : ℕ
 most-frames = 1000000
 
 -- frames, samples left over, bytes left over after these, "end"; or "limit", when a byte follows the last frame that is read

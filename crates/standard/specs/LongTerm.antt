@@ -1,6 +1,6 @@
 -- 4.2.11 and 4.2.12: the long term predictor section. dp is dp[−120..−1], the oldest first; d is d[0..39].
 use Prim.Native.Nat.{ℕ, _+_, _-_}
-use mathlib.Core.Bool.{cond}
+use mathlib.Core.Bool.{Bool, cond}
 use mathlib.Core.List.{List, map, zipWith}
 use lib.IntN.{ℤ, pos}
 use lib.ListN.{take, drop}
@@ -9,9 +9,13 @@ use mir.Syntax.{w16, w32}
 use Rattle.lists.specs.First.{first}
 use Rattle.lists.specs.Best.{Best, best}
 use Rattle.lists.specs.Tab.{tab}
-use Rattle.standard.specs.Arithmetic.{is-zero, up, shr, sub, mult, mult-r, norm, peak, L-sum, L-squares}
+use Rattle.standard.specs.Arithmetic.{is-zero, within, up, shr, sub, mult, mult-r, norm, peak, L-sum, L-squares}
 use Rattle.standard.specs.Tables.{_at_, DLB, QLB}
 use Rattle.standard.specs.Lpc.{normalized}
+
+-- a lag that the predictor can have
+abbrev pub is-lag : ℤ → Bool
+is-lag = within (pos 40) (pos 120)
 
 -- the 40 samples dp[k − lag], for k = 0 to 39
 unfoldable pub back : ℕ → List ℤ → List ℤ

@@ -10,7 +10,7 @@ use Rattle.standard.specs.Tables.{neg}
 use Rattle.standard.specs.Frame.{words}
 use Rattle.standard.specs.Lpc.{scaled, rescaled}
 use Rattle.standard.specs.Rpe.{xmaxc, amplitude, xMp}
-use Rattle.standard.specs.Coder.{coded}
+use Rattle.standard.specs.Coder.{frame, coded}
 use Rattle.standard.specs.Decoder.{Nr}
 use Rattle.standard.specs.Packed.{packed}
 use Rattle.standard.specs.House.{home-coder, home-decoder}
@@ -50,7 +50,7 @@ pub record Worked : Type 0 where
   pub quietest : xMp (amplitude (pos 0)) (pos 4 ∷ pos 3 ∷ []) ≡ pos 4 ∷ neg 4 ∷ []
   pub loudest : xMp (amplitude (pos 63)) (pos 7 ∷ pos 0 ∷ []) ≡ pos 28671 ∷ neg 28671 ∷ []
   pub lags : lags-used (pos 39 ∷ pos 40 ∷ pos 121 ∷ pos 120 ∷ []) ≡ pos 40 ∷ pos 40 ∷ pos 40 ∷ pos 120 ∷ []
-  pub zero-packed : take 5 (packed (words (coded home-coder (replicate 160 (pos 0)) .1 .frame))) ≡ 32 ∷ 72 ∷ 23 ∷ 214 ∷ 132 ∷ []
+  pub zero-packed : take 5 (packed (words (frame (coded home-coder (replicate 160 (pos 0)) .1)))) ≡ 32 ∷ 72 ∷ 23 ∷ 214 ∷ 132 ∷ []
 
 pub worked : Worked
 unfolding opened

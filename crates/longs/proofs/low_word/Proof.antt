@@ -5,15 +5,15 @@ use mir.Syntax.{w16, w32}
 use mir.Val.{SFits, ofZ, toZ}
 use Rattle.integers.specs.Halves.{mem}
 use Rattle.integers.specs.Ranges.{wide, back}
-use Rattle.standard.specs.Arithmetic.{down, keep}
+use Rattle.standard.specs.Arithmetic.{_>>_, keep}
 use Rattle.arithmetic.specs.Shift.{up-bits, keep-fits, low-word}
 use Rattle.longs.proofs.low_word.Statement.{statement}
 use Rattle.longs.proofs.low_word.Tie as tie
 
-there-and-back : (c : tie.Start) → mem w32 (down (toZ w32 ((ofZ w32 (c .args .a) * 65536) % 4294967296)) 16) ≡ keep w16 (c .args .a)
+there-and-back : (c : tie.Start) → mem w32 (toZ w32 ((ofZ w32 (c .args .a) * 65536) % 4294967296) >> 16) ≡ keep w16 (c .args .a)
 there-and-back c =
     let a = c .args .a in
-    ap (λ (x : ℤ). mem w32 (down x 16)) (up-bits w32 a 16 (c .fits .a)) ∙ (ap (mem w32) (low-word a) ∙ back (wide (keep-fits w16 a) tt))
+    ap (λ (x : ℤ). mem w32 (x >> 16)) (up-bits w32 a 16 (c .fits .a)) ∙ (ap (mem w32) (low-word a) ∙ back (wide (keep-fits w16 a) tt))
 
 cast-result : tie.Need-cast-result
 cast-result c = subst⁻¹ (SFits w16) (there-and-back c) (keep-fits w16 (c .args .a))
