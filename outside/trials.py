@@ -8,13 +8,21 @@ Samples and codewords are those of the vectors; the states between frames are th
 vectors and to libgsm. The frames of Made.antt show what no vector does, and are clause4.py's alone. Status 1: a difference."""
 import argparse
 import os
+import random
 import re
 import sys
 
 from clause4 import Coder, Decoder, decode, encode, frames
-from signals import swell
+from signals import random_coder, random_decoder, swell, words
 
 SPECS = os.path.join(os.path.dirname(__file__), '..', 'crates', 'trials', 'specs')
+
+
+def any_frame(seed):
+    """A sound state and samples by chance."""
+    dice = random.Random(seed)
+    return random_coder(dice), words(dice, 160)
+
 
 # Which frames of the vectors, counted from 0, and what is to be seen in each
 ENCODED = [
@@ -53,7 +61,11 @@ MADE = [
     ('stopped-at-7', Coder(), swell(160, 4, 8000, 80, 4), 'stopped at 7'),
     ('zero-by-zero', Coder(), swell(160, 80, 20000, 160, 2), 'div(0, 0)'),
     ('wrapped', Coder(z1=-16384, L_z2=397), [32767] + [0] * 159, 'from a sound state: at scale 4 a sample comes back as -32768'),
+    ('any-state-20', *any_frame(20), 'any words from any sound state: clips in 4.2.3, at 26112 in 4.2.9.2, in 4.2.12'),
+    ('any-state-44', *any_frame(44), 'clips in 4.2.3, in 4.2.12 and in the first doubling of 4.2.13'),
 ]
+# The same for the decoder: seeds of a state and of its codewords
+MADE_DECODED = [(1, 'any words from any sound state'), (2, 'and once more')]
 
 # What the files import, where they name it
 USES = [
@@ -74,8 +86,8 @@ USES = [
 def whole(title, theorems):
     """A whole file: its title, what it uses, its theorems."""
     body = ''.join(theorems)
-    words = set(re.sub('"[^"]*"', ' ', re.sub('--.*', ' ', body)).replace('(', ' ').replace(')', ' ').replace(';', ' ').split())
-    uses = [(module, [name for name in names if name.strip('_') in words]) for module, names in USES]
+    named = set(re.sub('"[^"]*"', ' ', re.sub('--.*', ' ', body)).replace('(', ' ').replace(')', ' ').replace(';', ' ').split())
+    uses = [(module, [name for name in names if name.strip('_') in named]) for module, names in USES]
     lines = ['use %s.{%s}\n' % (module, ', '.join(names)) for module, names in uses if names]
     return f'-- {title} Written by outside/trials.py.\n' + ''.join(lines) + body
 
@@ -117,9 +129,9 @@ def encoded(name, seen, before, samples, given=None):
     return theorem(name, seen, call, done(answer))
 
 
-def decoded(name, seen, before, codewords, given):
+def decoded(name, seen, before, codewords, given=None):
     after, samples = decode(before, codewords)
-    if given != samples:
+    if given not in (None, samples):
         sys.exit(f'{name}: the model and the vector differ')
     call = f'decode ({state(before)}) ({items(codewords)}) (replicate 160 (pos 0))'
     return theorem(name, seen, call, done(f'state = {state(after)}; samples = {items(samples)}'))
@@ -150,6 +162,9 @@ def encoding(folder):
 def made(folder):
     for name, home, samples, seen in MADE:
         yield encoded(name, seen, home, samples)
+    for seed, seen in MADE_DECODED:
+        dice = random.Random(seed)
+        yield decoded(f'any-decoder-{seed}', seen, random_decoder(dice), words(dice, 76))
 
 
 def decoding(folder):
@@ -161,11 +176,11 @@ def decoding(folder):
 
 def packing(folder):
     for name, place in PACKED:
-        words = items(frames_of(folder, f'enc/{name}.cod', 76)[place])
+        codes = items(frames_of(folder, f'enc/{name}.cod', 76)[place])
         bytes_ = items(contents(folder, f'enc/{name}.pack')[33 * place:33 * place + 33], str)
         short = f'{name.replace("_", "-")}-{place}'
-        yield theorem(f'{short}-packed', 'to bytes', f'pack ({words}) (replicate 33 255)', done(f'bytes = {bytes_}'))
-        yield theorem(f'{short}-unpacked', 'and back', f'unpack ({bytes_}) (replicate 76 (pos 1))', done(f'codewords = {words}'))
+        yield theorem(f'{short}-packed', 'to bytes', f'pack ({codes}) (replicate 33 255)', done(f'bytes = {bytes_}'))
+        yield theorem(f'{short}-unpacked', 'and back', f'unpack ({bytes_}) (replicate 76 (pos 1))', done(f'codewords = {codes}'))
 
 
 def listing(folder):
@@ -177,7 +192,7 @@ def listing(folder):
 
 MAKERS = {
     'Encoding': ('Frames of the vectors, encoded.', encoding),
-    'Made': ('Frames for what no vector shows, encoded.', made),
+    'Made': ('Frames for what no vector shows, encoded and decoded.', made),
     'Decoding': ('Frames of the vectors, decoded.', decoding),
     'Packing': ('Frames of the vectors, packed and unpacked.', packing),
     'Listing': ('Inputs of the vectors, listed.', listing),
@@ -200,7 +215,7 @@ def main():
                     print(f'crates/trials/specs/{name}.antt is not what trials.py writes')
                     return 1
     if arguments.compare:
-        print(f'crates/trials: {len(ENCODED) + len(MADE)} frames encoded, {len(DECODED)} decoded, {len(PACKED)} packed and unpacked, '
+        print(f'crates/trials: {len(ENCODED) + len(MADE)} frames encoded, {len(DECODED) + len(MADE_DECODED)} decoded, {len(PACKED)} packed and unpacked, '
               f'{len(LISTED)} inputs listed, as the vectors and the model have them')
     return 0
 

@@ -16,4 +16,5 @@ pub mod Opened
 pub mod Worked
 pub mod ZeroFrame
 pub mod Easy
+pub mod Edges
 pub mod Refused

@@ -1,0 +1,94 @@
+-- Clause 4's formulas where they change their branch or meet their clip. The values are outside/clause4.py's.
+use Prim.Native.Nat.{ℕ}
+use mathlib.Core.Path.{_≡_, refl}
+use mathlib.Core.List.{List, [], _∷_, map}
+use lib.IntN.{ℤ, pos}
+use lib.ListN.{replicate}
+use Rattle.lists.specs.Tab.{tab}
+use Rattle.standard.specs.Tables.{neg}
+use Rattle.standard.specs.Preprocessing.{downscaled, emphasis}
+use Rattle.standard.specs.Lpc.{scalauto, LAR, LARc}
+use Rattle.standard.specs.ShortTerm.{ratios, stretches, rp}
+use Rattle.standard.specs.LongTerm.{scal, gain-level, bc, residual}
+use Rattle.standard.specs.Rpe.{filtered, amplitude, xMc}
+use Rattle.standard.specs.Decoder.{de-emphasis, srop}
+use Rattle.standard.specs.Opened.{opened}
+
+-- numbers, and numbers below 0
+abbrev up : List ℕ → List ℤ
+up = map pos
+
+abbrev below : List ℕ → List ℤ
+below = map neg
+
+pub record Coding : Type 0 where
+  pub input-bits : downscaled (pos 7 ∷ pos 32767 ∷ neg 1 ∷ neg 32768 ∷ []) ≡ pos 0 ∷ pos 16380 ∷ neg 4 ∷ neg 16384 ∷ []
+  pub emphasis-high : emphasis (neg 32768) (pos 32767) .1 ≡ pos 32767
+  pub emphasis-low : emphasis (pos 32767) (neg 32768) .1 ≡ neg 32768
+  pub scale-of-samples : map (λ x. scalauto (x ∷ [])) (up (0 ∷ 1 ∷ 2047 ∷ 2048 ∷ 32767 ∷ [])) ≡ pos 0 ∷ neg 10 ∷ pos 0 ∷ pos 1 ∷ pos 4 ∷ []
+  pub ratio : map LAR (up (22117 ∷ 22118 ∷ 31129 ∷ 31130 ∷ 32767 ∷ [])) ≡ up (11058 ∷ 11059 ∷ 20070 ∷ 20072 ∷ 26620 ∷ [])
+  pub ratio-below : map LAR (below (1 ∷ 32768 ∷ [])) ≡ pos 0 ∷ neg 26620 ∷ []
+  pub most-codes : tab (λ i. LARc i (pos 32767)) 0 8 ≡ up (63 ∷ 63 ∷ 31 ∷ 31 ∷ 15 ∷ 15 ∷ 7 ∷ 7 ∷ [])
+  pub least-codes : tab (λ i. LARc i (neg 32768)) 0 8 ≡ replicate 8 (pos 0)
+  pub some-codes : tab (λ i. LARc i (neg 1000)) 0 8 ≡ up (31 ∷ 31 ∷ 19 ∷ 10 ∷ 7 ∷ 4 ∷ 3 ∷ 1 ∷ [])
+  pub scale-of-d : map (λ x. scal (x ∷ [])) (up (0 ∷ 511 ∷ 512 ∷ 32767 ∷ [])) ≡ up (6 ∷ 0 ∷ 1 ∷ 6 ∷ [])
+  pub levels-met : map (λ R. gain-level R (pos 16384)) (up (3277 ∷ 8192 ∷ 13107 ∷ [])) ≡ 0 ∷ 1 ∷ 2 ∷ []
+  pub levels-passed : map (λ R. gain-level R (pos 16384)) (up (3278 ∷ 8193 ∷ 13108 ∷ [])) ≡ 1 ∷ 2 ∷ 3 ∷ []
+  pub level-unrounded : gain-level (pos 3278) (pos 16387) ≡ 1
+  pub gain-none : bc (pos 0) (pos 5) ≡ 0
+  pub gain-most : bc (pos 5) (pos 5) ≡ 3
+  pub gain-between : bc (pos 3) (pos 5) ≡ 2
+  pub residual-clips : residual (pos 32767 ∷ neg 32768 ∷ []) (neg 1 ∷ pos 1 ∷ []) ≡ pos 32767 ∷ neg 32768 ∷ []
+  pub weight-high : filtered (replicate 11 (pos 32767)) ≡ pos 32767
+  pub weight-low : filtered (replicate 11 (neg 32768)) ≡ neg 32768
+  pub pulse-ends : xMc (amplitude (pos 63)) (neg 32768 ∷ pos 32767 ∷ []) ≡ pos 0 ∷ pos 7 ∷ []
+
+pub coding : Coding
+unfolding opened
+coding = record {
+  input-bits = refl;
+  emphasis-high = refl;
+  emphasis-low = refl;
+  scale-of-samples = refl;
+  ratio = refl;
+  ratio-below = refl;
+  most-codes = refl;
+  least-codes = refl;
+  some-codes = refl;
+  scale-of-d = refl;
+  levels-met = refl;
+  levels-passed = refl;
+  level-unrounded = refl;
+  gain-none = refl;
+  gain-most = refl;
+  gain-between = refl;
+  residual-clips = refl;
+  weight-high = refl;
+  weight-low = refl;
+  pulse-ends = refl;
+}
+
+pub record Decoding : Type 0 where
+  pub least-ratios : ratios (replicate 8 (pos 0)) ≡ below (26214 ∷ 26214 ∷ 16384 ∷ 9012 ∷ 9832 ∷ 4916 ∷ 6554 ∷ 3278 ∷ [])
+  pub most-ratios : ratios (up (63 ∷ 63 ∷ 31 ∷ 31 ∷ 15 ∷ 15 ∷ 7 ∷ 7 ∷ [])) ≡ up (25394 ∷ 25394 ∷ 9012 ∷ 16384 ∷ 8190 ∷ 11468 ∷ 7206 ∷ 9718 ∷ [])
+  pub stretch-lengths : map (λ t. t .0) stretches ≡ 13 ∷ 14 ∷ 13 ∷ 120 ∷ []
+  pub interpolated : map (λ t. t .1 (neg 32768) (pos 32767)) stretches ≡ neg 16385 ∷ neg 1 ∷ pos 16382 ∷ pos 32767 ∷ []
+  pub coefficient : map rp (up (11058 ∷ 11059 ∷ 20069 ∷ 20070 ∷ 32767 ∷ [])) ≡ up (22116 ∷ 22118 ∷ 31128 ∷ 31129 ∷ 32767 ∷ [])
+  pub coefficient-below : map rp (below (1 ∷ 32768 ∷ [])) ≡ neg 2 ∷ neg 32767 ∷ []
+  pub de-emphasis-high : de-emphasis (pos 32767) (pos 32767) .1 ≡ pos 32767
+  pub de-emphasis-low : de-emphasis (neg 32768) (neg 32768) .1 ≡ neg 32768
+  pub doubled : map srop (pos 20000 ∷ neg 20000 ∷ pos 1 ∷ neg 1 ∷ pos 5 ∷ []) ≡ pos 32760 ∷ neg 32768 ∷ pos 0 ∷ neg 8 ∷ pos 8 ∷ []
+
+pub decoding : Decoding
+unfolding opened
+decoding = record {
+  least-ratios = refl;
+  most-ratios = refl;
+  stretch-lengths = refl;
+  interpolated = refl;
+  coefficient = refl;
+  coefficient-below = refl;
+  de-emphasis-high = refl;
+  de-emphasis-low = refl;
+  doubled = refl;
+}
