@@ -5,3 +5,4 @@ pub mod Quantization
 pub mod Indices
 pub mod Filters
 pub mod Recursion
+pub mod Ending

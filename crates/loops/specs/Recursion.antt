@@ -6,7 +6,7 @@ use mathlib.Core.List.{List, [], _∷_, _++_, zipWith, tail, append-nil}
 use native.Mathlib.Omega.{arith}
 use lib.Dec.{eqb}
 use lib.IntN.{ℤ, pos}
-use lib.ListN.{length, length-map, set, take, replicate, length-set}
+use lib.ListN.{length, set, take, replicate, length-set}
 use lib.Seq.{take-all, append-snoc, take-suc-set}
 use lib.Signed.{ltZ}
 use borrow.Author.Tests.{eqb-true}
@@ -17,6 +17,7 @@ use Rattle.lists.specs.For.{by-entries, by-both, by-three, tab-each}
 use Rattle.standard.specs.Arithmetic.{is-zero, abs, add, mult-r}
 use Rattle.standard.specs.Tables.{_at_}
 use Rattle.standard.specs.Lpc.{ACF, reflection, measured, schur, r as reflections}
+use Rattle.lengths.specs.Analysis.{ACF-length}
 
 -- ---- "Schur recursion": P[0..8] and K[0..8] in turn n, with rn for r[n]
 
@@ -64,10 +65,21 @@ PK-inner-length rn zero i P K p q = (p, q)
 PK-inner-length rn (suc n) i P K p q = PK-inner-length rn n (suc i) _ _ (length-set P i _ ∙ p) (length-set K (9 - i) _ ∙ q)
 
 -- and so does the whole turn
-PK-length : (n : ℕ) (rn : ℤ) (P K : List ℤ) → length P ≡ 9 → length K ≡ 9
+pub PK-length : (n : ℕ) (rn : ℤ) (P K : List ℤ) → length P ≡ 9 → length K ≡ 9
     → let t = PK-loop n rn P K in (length (t .0) ≡ 9) × (length (t .1) ≡ 9)
 unfolding PK-loop
 PK-length n rn P K p q = PK-inner-length rn (8 - n) 1 _ K (length-set P 0 _ ∙ p) q
+
+-- what the definition measures in k steps of what it sees
+abbrev pub measures : ℕ → ℤ × List ℤ × List ℤ → List ℤ
+measures k s = measured k (s .0) (s .1) (s .2)
+
+-- after 001's turn m + 1, with k turns to come, it measures what it does after its own step
+pub turn-measures : (k m : ℕ) (rn : ℤ) (P K : List ℤ) → m + suc k ≡ 8 → length P ≡ 9 → length K ≡ 9
+    → measures k (seen k (PK-loop (suc m) rn P K)) ≡ measures k (stepped k rn P K)
+turn-measures k m rn P K e p q =
+    let g : 8 - suc m ≡ k = omega arith in
+    ap (measures k) (rw g at (PK-step (suc m) rn (omega arith) (omega arith) P K p q))
 
 -- ---- "Compute reflection coefficients". r[i] stands at place i − 1
 
@@ -110,13 +122,14 @@ stored k m r rn {x} {y} h e =
     rw (e, f, take-suc-set r m rn h, append-snoc)
 
 -- one test that decides both sides
-decides : (b : Bool) (x y u v : List ℤ) (F : List ℤ → List ℤ) → (b ≡ true → x ≡ F u) → (b ≡ false → y ≡ F v) → cond b x y ≡ F (cond b u v)
+pub decides : {A B : Type 0} (b : Bool) (x y : A) (u v : B) (F : B → A)
+    → (b ≡ true → x ≡ F u) → (b ≡ false → y ≡ F v) → cond b x y ≡ F (cond b u v)
 decides true x y u v F p q = p refl
 decides false x y u v F p q = q refl
 
 -- the last k turns store, after r[1..m], what the definition measures in k steps
 r-loop-is : (k m : ℕ) (P K r : List ℤ) → m + k ≡ 8 → length P ≡ 9 → length K ≡ 9 → length r ≡ 8
-    → let s = seen k (P, K) in r-loop k (suc m) P K r ≡ take m r ++ padded k (measured k (s .0) (s .1) (s .2))
+    → r-loop k (suc m) P K r ≡ take m r ++ padded k (measures k (seen k (P, K)))
 unfolding r-loop measured tab
 r-loop-is zero m P K r e p q l = let f : m ≡ 8 = omega arith in rw (f, take-all 8 r (omega arith), append-nil r)
 r-loop-is (suc k) m P K r e p q l =
@@ -124,15 +137,13 @@ r-loop-is (suc k) m P K r e p q l =
     let t = PK-loop (suc m) rn P K in
     let (a, b) = PK-length (suc m) rn P K p q in
     let f : 8 - m ≡ suc k = omega arith in
-    let g : 8 - suc m ≡ k = omega arith in
     let h : suc m - 1 ≡ m = omega arith in
-    let step = rw g at (PK-step (suc m) rn (omega arith) (omega arith) P K p q) in
     let later = r-loop-is k (suc m) (t .0) (t .1) (set r m rn) (omega arith) a b (length-set r m rn ∙ l) in
     decides (ltZ (P at 0) (abs (P at 1))) _ _ [] _ (λ x. take m r ++ padded (suc k) x)
     (λ _. rw f at (zeros m (omega arith) r l))
     (λ _.
     rw h (exits k (suc m) (t .0) (t .1) (set r m rn) (omega arith)
-    ∙ (later ∙ stored k m r rn (omega arith) (ap (λ (s : ℤ × List ℤ × List ℤ). measured k (s .0) (s .1) (s .2)) step))))
+    ∙ (later ∙ stored k m r rn (omega arith) (turn-measures k m rn P K e p q))))
 
 -- ---- the whole
 
@@ -159,7 +170,7 @@ started =
     (λ f g h. refl)
 
 -- the lengths stay, and there is a K for each P but the first
-sizes : (acf P K : List ℤ) → length acf ≡ 9 → length P ≡ 9 → length K ≡ 9
+pub sizes : (acf P K : List ℤ) → length acf ≡ 9 → length P ≡ 9 → length K ≡ 9
     → (length (P-start acf P) ≡ 9) × (length (K-start acf K) ≡ 9) × (length (tail acf) ≤ suc (length (take 7 (tail acf))))
 unfolding steps P-start K-start tab
 sizes =
@@ -177,19 +188,24 @@ measured-reads (suc n) P0 (P1 ∷ P) K more h =
     let front : (f : ℤ → ℤ → ℤ) → zipWith f P (K ++ more) ≡ zipWith f P K = λ f. zip-front f P K more (omega arith) in
     rw (front (λ p k. add p (mult-r k r)), front (λ p k. add k (mult-r p r)))
 
+-- so what is measured from the start is what the definition measures of ACF[0..8]
+pub start-measures : (acf P K : List ℤ) → length acf ≡ 9 → length P ≡ 9 → length K ≡ 9
+    → measures 8 (seen 8 (P-start acf P, K-start acf K)) ≡ measured 8 (acf at 0) (tail acf) (take 7 (tail acf))
+start-measures acf P K a p q =
+    ap (measures 8) (started acf P K a p q)
+    ∙ measured-reads 8 (acf at 0) (tail acf) (take 7 (tail acf)) (K at 1 ∷ []) (sizes acf P K a p q .2)
+
 -- the eight turns measure what the definition does
 recursion-is : (acf P K r : List ℤ) → length acf ≡ 9 → length P ≡ 9 → length K ≡ 9 → length r ≡ 8
     → r-loop 8 1 (P-start acf P) (K-start acf K) r ≡ padded 8 (measured 8 (acf at 0) (tail acf) (take 7 (tail acf)))
 recursion-is acf P K r a p q l =
-    let (b, c, d) = sizes acf P K a p q in
-    r-loop-is 8 0 (P-start acf P) (K-start acf K) r refl b c l
-    ∙ (ap (λ (s : ℤ × List ℤ × List ℤ). padded 8 (measured 8 (s .0) (s .1) (s .2))) (started acf P K a p q)
-    ∙ ap (padded 8) (measured-reads 8 (acf at 0) (tail acf) (take 7 (tail acf)) (K at 1 ∷ []) d))
+    let (b, c, _) = sizes acf P K a p q in
+    r-loop-is 8 0 (P-start acf P) (K-start acf K) r refl b c l ∙ ap (padded 8) (start-measures acf P K a p q)
 
 -- 4.2.5 gives the definition's r[1..8]
 pub reflection-is : (L-acf P K r : List ℤ) → length L-acf ≡ 9 → length P ≡ 9 → length K ≡ 9 → length r ≡ 8
     → reflection-loop L-acf P K r ≡ reflections L-acf
-unfolding reflection-loop reflections schur ACF
+unfolding reflection-loop reflections schur
 reflection-is L-acf P K r a p q l =
     decides (is-zero (L-acf at 0)) _ _ [] _ (padded 8) (λ _. zeros 0 (omega arith) r l)
-    (λ _. recursion-is (ACF L-acf) P K r (length-map L-acf _ ∙ a) p q l)
+    (λ _. recursion-is (ACF L-acf) P K r (ACF-length L-acf ∙ a) p q l)
