@@ -71,7 +71,7 @@ add = plus w16
 abbrev pub sub : ℤ → ℤ → ℤ
 sub = minus w16
 
--- the clip is met by the two least words alone, which give 32767
+-- the clip is met by −32768 times −32768 alone, which gives 32767
 unfoldable pub mult : ℤ → ℤ → ℤ
 mult a b = clip w16 ((a *ℤ b) >> 15)
 
@@ -88,7 +88,7 @@ div (pos n) (pos d) = clip w16 (pos (n * 32768 / d))
 div (pos n) (negsuc d) = pos 0
 div (negsuc n) d = pos 0
 
--- twice the product; the two least words, which "do not occur", clip
+-- twice the product; −32768 times −32768, which "does not occur in the algorithm", clips
 unfoldable pub L-mult : ℤ → ℤ → ℤ
 L-mult a b = clip w32 (a *ℤ b +ℤ a *ℤ b)
 
@@ -98,7 +98,7 @@ L-add = plus w32
 abbrev pub L-sub : ℤ → ℤ → ℤ
 L-sub = minus w32
 
--- the left shifts needed to bring z to 1073741824 or above; where z is negative, to −1073741824 or below
+-- the left shifts needed to bring z to 1073741824 or above; where z is negative, to −1073741824 or below; 31 where z is 0
 unfoldable pub norm : ℤ → ℤ
 norm z = pos (first (λ n. leb 1073741824 (natAbs z * 2 ^ n)) 31 0)
 

@@ -36,13 +36,13 @@ L-ACF s = tab (λ k. L-sum (pos 0) (drop k s) s) 0 9
 
 -- ---- 4.2.5 Computation of the reflection coefficients
 
--- how the recursion ended (01): all eight are 0; at step n, and n to 8 are 0; or after the eighth
+-- how the recursion ended (01). Silent: the first sum is 0, all eight are 0. Stopped at step n: r[n] to r[8] are 0. Complete otherwise
 pub data Ending : Type 0 where
   silent : Ending
   stopped : ℕ → Ending
   complete : Ending
 
--- the 16 high bits of a long word that was shifted left by n
+-- the 16 high bits of a long word that was shifted left by n: ACF[k] here, R and S in 4.2.11
 unfoldable pub normalized : ℤ → ℤ → ℤ
 normalized n x = low (shl w32 x n >> 16)
 
@@ -68,7 +68,7 @@ measured (suc n) P0 (P1 ∷ P) K =
     let later = measured n (add P0 (mult-r P1 r)) nextP nextK in
     cond (ltZ P0 (abs P1)) [] (r ∷ later)
 
--- the recursion on L_ACF: none is measured in silence. K[9 − i] is ACF[i], for i = 1 to 7
+-- the coefficients measured from L_ACF[0..8]: none where L_ACF[0] is 0. K[9 − i] is ACF[i], for i = 1 to 7
 unfoldable pub schur : List ℤ → List ℤ
 schur L-acf =
     let acf = ACF L-acf in

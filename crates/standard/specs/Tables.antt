@@ -7,7 +7,7 @@ use lib.ListN.{getD}
 abbrev pub neg : ℕ → ℤ
 neg n = negℤ (pos n)
 
--- the entry at a place
+-- the entry at a place; past the end, 0
 infix 80 _at_
 abbrev pub _at_ : List ℤ → ℕ → ℤ
 t at i = getD t i (pos 0)
