@@ -3,3 +3,4 @@ pub mod Subframes
 pub mod Decoding
 pub mod Frames
 pub mod Calls
+pub mod Listing

@@ -6,7 +6,7 @@ use lib.IntN.{ℤ, pos}
 use lib.ListN.{replicate}
 use Rattle.lists.specs.Tab.{tab}
 use Rattle.standard.specs.Tables.{neg}
-use Rattle.standard.specs.Preprocessing.{downscaled, emphasis}
+use Rattle.standard.specs.Preprocessing.{downscaled, offset, emphasis}
 use Rattle.standard.specs.Lpc.{scalauto, LAR, LARc}
 use Rattle.standard.specs.ShortTerm.{ratios, stretches, rp}
 use Rattle.standard.specs.LongTerm.{scal, gain-level, bc, residual}
@@ -23,14 +23,17 @@ below = map neg
 
 pub record Coding : Type 0 where
   pub input-bits : downscaled (pos 7 ∷ pos 32767 ∷ neg 1 ∷ neg 32768 ∷ []) ≡ pos 0 ∷ pos 16380 ∷ neg 4 ∷ neg 16384 ∷ []
+  pub offset-rounds : offset (record { z1 = pos 0; L-z2 = pos 16401 }) (pos 0) ≡ (record { z1 = pos 0; L-z2 = pos 16384 }, pos 1)
   pub emphasis-high : emphasis (neg 32768) (pos 32767) .1 ≡ pos 32767
   pub emphasis-low : emphasis (pos 32767) (neg 32768) .1 ≡ neg 32768
   pub scale-of-samples : map (λ x. scalauto (x ∷ [])) (up (0 ∷ 1 ∷ 2047 ∷ 2048 ∷ 32767 ∷ [])) ≡ pos 0 ∷ neg 10 ∷ pos 0 ∷ pos 1 ∷ pos 4 ∷ []
-  pub ratio : map LAR (up (22117 ∷ 22118 ∷ 31129 ∷ 31130 ∷ 32767 ∷ [])) ≡ up (11058 ∷ 11059 ∷ 20070 ∷ 20072 ∷ 26620 ∷ [])
+  pub ratio : map LAR (up (22116 ∷ 22119 ∷ 31129 ∷ 31130 ∷ 32767 ∷ [])) ≡ up (11058 ∷ 11060 ∷ 20070 ∷ 20072 ∷ 26620 ∷ [])
   pub ratio-below : map LAR (below (1 ∷ 32768 ∷ [])) ≡ pos 0 ∷ neg 26620 ∷ []
   pub most-codes : tab (λ i. LARc i (pos 32767)) 0 8 ≡ up (63 ∷ 63 ∷ 31 ∷ 31 ∷ 15 ∷ 15 ∷ 7 ∷ 7 ∷ [])
   pub least-codes : tab (λ i. LARc i (neg 32768)) 0 8 ≡ replicate 8 (pos 0)
   pub some-codes : tab (λ i. LARc i (neg 1000)) 0 8 ≡ up (31 ∷ 31 ∷ 19 ∷ 10 ∷ 7 ∷ 4 ∷ 3 ∷ 1 ∷ [])
+  pub codes-round : map (LARc 0) (up (409 ∷ 410 ∷ [])) ≡ up (32 ∷ 33 ∷ [])
+  pub codes-round-down : map (LARc 0) (below (2868 ∷ [])) ≡ up (28 ∷ [])
   pub scale-of-d : map (λ x. scal (x ∷ [])) (up (0 ∷ 511 ∷ 512 ∷ 32767 ∷ [])) ≡ up (6 ∷ 0 ∷ 1 ∷ 6 ∷ [])
   pub levels-met : map (λ R. gain-level R (pos 16384)) (up (3277 ∷ 8192 ∷ 13107 ∷ [])) ≡ 0 ∷ 1 ∷ 2 ∷ []
   pub levels-passed : map (λ R. gain-level R (pos 16384)) (up (3278 ∷ 8193 ∷ 13108 ∷ [])) ≡ 1 ∷ 2 ∷ 3 ∷ []
@@ -39,6 +42,7 @@ pub record Coding : Type 0 where
   pub gain-most : bc (pos 5) (pos 5) ≡ 3
   pub gain-between : bc (pos 3) (pos 5) ≡ 2
   pub residual-clips : residual (pos 32767 ∷ neg 32768 ∷ []) (neg 1 ∷ pos 1 ∷ []) ≡ pos 32767 ∷ neg 32768 ∷ []
+  pub weight-rounds : filtered (neg 2 ∷ pos 3 ∷ pos 0 ∷ pos 8 ∷ neg 2 ∷ []) ≡ pos 1
   pub weight-high : filtered (replicate 11 (pos 32767)) ≡ pos 32767
   pub weight-low : filtered (replicate 11 (neg 32768)) ≡ neg 32768
   pub pulse-ends : xMc (amplitude (pos 63)) (neg 32768 ∷ pos 32767 ∷ []) ≡ pos 0 ∷ pos 7 ∷ []
@@ -47,6 +51,7 @@ pub coding : Coding
 unfolding opened
 coding = record {
   input-bits = refl;
+  offset-rounds = refl;
   emphasis-high = refl;
   emphasis-low = refl;
   scale-of-samples = refl;
@@ -55,6 +60,8 @@ coding = record {
   most-codes = refl;
   least-codes = refl;
   some-codes = refl;
+  codes-round = refl;
+  codes-round-down = refl;
   scale-of-d = refl;
   levels-met = refl;
   levels-passed = refl;
@@ -63,6 +70,7 @@ coding = record {
   gain-most = refl;
   gain-between = refl;
   residual-clips = refl;
+  weight-rounds = refl;
   weight-high = refl;
   weight-low = refl;
   pulse-ends = refl;
@@ -73,7 +81,7 @@ pub record Decoding : Type 0 where
   pub most-ratios : ratios (up (63 ∷ 63 ∷ 31 ∷ 31 ∷ 15 ∷ 15 ∷ 7 ∷ 7 ∷ [])) ≡ up (25394 ∷ 25394 ∷ 9012 ∷ 16384 ∷ 8190 ∷ 11468 ∷ 7206 ∷ 9718 ∷ [])
   pub stretch-lengths : map (λ t. t .0) stretches ≡ 13 ∷ 14 ∷ 13 ∷ 120 ∷ []
   pub interpolated : map (λ t. t .1 (neg 32768) (pos 32767)) stretches ≡ neg 16385 ∷ neg 1 ∷ pos 16382 ∷ pos 32767 ∷ []
-  pub coefficient : map rp (up (11058 ∷ 11059 ∷ 20069 ∷ 20070 ∷ 32767 ∷ [])) ≡ up (22116 ∷ 22118 ∷ 31128 ∷ 31129 ∷ 32767 ∷ [])
+  pub coefficient : map rp (up (11058 ∷ 11060 ∷ 20069 ∷ 20071 ∷ 32767 ∷ [])) ≡ up (22116 ∷ 22119 ∷ 31128 ∷ 31129 ∷ 32767 ∷ [])
   pub coefficient-below : map rp (below (1 ∷ 32768 ∷ [])) ≡ neg 2 ∷ neg 32767 ∷ []
   pub de-emphasis-high : de-emphasis (pos 32767) (pos 32767) .1 ≡ pos 32767
   pub de-emphasis-low : de-emphasis (neg 32768) (neg 32768) .1 ≡ neg 32768

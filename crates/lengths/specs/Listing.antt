@@ -1,0 +1,31 @@
+-- The lister's frames: as many as are whole, as far as the limit, each of 160 samples.
+use Prim.Native.Nat.{ℕ, _/_, min}
+use mathlib.Core.Path.{_≡_, refl}
+use mathlib.Core.Bool.{true}
+use mathlib.Core.List.{List, [], _∷_}
+use native.Mathlib.Omega.{arith}
+use lib.ListN.{length, length-map, length-replicate}
+use Rattle.lists.specs.Cut.{cut-count}
+use Rattle.lists.specs.Every.{every, every-map, every-so}
+use Rattle.lists.specs.Lengths.{sized, sized-yes, sized-length, cut-sized}
+use Rattle.standard.specs.Listing.{frame-bytes, most-frames, samples, frames}
+
+-- two bytes make a sample
+pub samples-length : (bytes : List ℕ) → length (samples bytes) ≡ length bytes / 2
+unfolding samples
+samples-length [] = refl
+samples-length (low ∷ []) = refl
+samples-length (low ∷ high ∷ bytes) = omega (arith, samples-length bytes)
+
+-- there are as many frames as are whole, no more than the limit
+pub frames-count : (bytes : List ℕ) → length (frames bytes) ≡ min (length bytes / frame-bytes) most-frames
+unfolding frames
+frames-count bytes = rw (length-map, cut-count, length-replicate)
+
+-- and each has 160 samples
+pub frames-sized : (bytes : List ℕ) → every (sized 160) (frames bytes) ≡ true
+unfolding frames
+frames-sized bytes =
+    rw every-map
+    (every-so (sized frame-bytes) _ (λ b e. sized-yes 160 (samples b) (omega (arith, samples-length b, sized-length frame-bytes b e))) _
+    (cut-sized (min (length bytes / frame-bytes) most-frames) frame-bytes bytes (omega arith)))
