@@ -27,8 +27,8 @@ def any_frame(seed):
 # Which frames of the vectors, counted from 0, and what is to be seen in each
 ENCODED = [
     ('e10_levels', 0, 'samples of -1, 0 and 1, from home'),
-    ('e32_speechlike', 10, 'a voice that sets in, quietly'),
-    ('e13_lowbits', 34, 'stray low bits; two lags by rule'),
+    ('e32_speechlike', 10, 'a voice that sets in, quietly; low bits that do not count'),
+    ('e13_lowbits', 34, 'loud; two lags by rule'),
     ('e27_buzz40', 0, 'a buzz of period 40 from home: lag 40 by rule, then found'),
     ('e15_impulse', 3, 'an impulse of -32768; the analysis lattice clips'),
     ('e20_loudsilence', 7, 'silence after loud noise'),

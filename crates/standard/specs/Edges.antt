@@ -7,7 +7,7 @@ use lib.ListN.{replicate}
 use Rattle.lists.specs.Tab.{tab}
 use Rattle.standard.specs.Tables.{neg}
 use Rattle.standard.specs.Preprocessing.{downscaled, offset, emphasis}
-use Rattle.standard.specs.Lpc.{scalauto, LAR, LARc}
+use Rattle.standard.specs.Lpc.{scalauto, measured, LAR, LARc}
 use Rattle.standard.specs.ShortTerm.{ratios, stretches, rp}
 use Rattle.standard.specs.LongTerm.{scal, gain-level, bc, residual}
 use Rattle.standard.specs.Rpe.{filtered, amplitude, xMc}
@@ -27,6 +27,7 @@ pub record Coding : Type 0 where
   pub emphasis-high : emphasis (neg 32768) (pos 32767) .1 ≡ pos 32767
   pub emphasis-low : emphasis (pos 32767) (neg 32768) .1 ≡ neg 32768
   pub scale-of-samples : map (λ x. scalauto (x ∷ [])) (up (0 ∷ 1 ∷ 2047 ∷ 2048 ∷ 32767 ∷ [])) ≡ pos 0 ∷ neg 10 ∷ pos 0 ∷ pos 1 ∷ pos 4 ∷ []
+  pub recursion-clips : measured 2 (pos 32767) (pos 16384 ∷ neg 32768 ∷ []) (pos 32767 ∷ []) ≡ neg 16384 ∷ []
   pub ratio : map LAR (up (22116 ∷ 22119 ∷ 31129 ∷ 31130 ∷ 32767 ∷ [])) ≡ up (11058 ∷ 11060 ∷ 20070 ∷ 20072 ∷ 26620 ∷ [])
   pub ratio-below : map LAR (below (1 ∷ 32768 ∷ [])) ≡ pos 0 ∷ neg 26620 ∷ []
   pub most-codes : tab (λ i. LARc i (pos 32767)) 0 8 ≡ up (63 ∷ 63 ∷ 31 ∷ 31 ∷ 15 ∷ 15 ∷ 7 ∷ 7 ∷ [])
@@ -55,6 +56,7 @@ coding = record {
   emphasis-high = refl;
   emphasis-low = refl;
   scale-of-samples = refl;
+  recursion-clips = refl;
   ratio = refl;
   ratio-below = refl;
   most-codes = refl;

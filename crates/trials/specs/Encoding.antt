@@ -15,12 +15,12 @@ pub e10-levels-0 : encode (record { z1 = pos 0; L-z2 = pos 0; mp = pos 0; LARpp 
 unfolding opened
 e10-levels-0 = refl
 
--- a voice that sets in, quietly
+-- a voice that sets in, quietly; low bits that do not count
 pub e32-speechlike-10 : encode (record { z1 = neg 24; L-z2 = neg 760940; mp = neg 23; LARpp = neg 10650 ∷ pos 8192 ∷ neg 8192 ∷ pos 820 ∷ neg 1422 ∷ pos 4916 ∷ pos 5242 ∷ pos 2292 ∷ []; u = neg 7 ∷ neg 5 ∷ neg 19 ∷ neg 9 ∷ neg 3 ∷ pos 41 ∷ neg 7 ∷ neg 11 ∷ []; dp = pos 2 ∷ pos 0 ∷ neg 40 ∷ pos 8 ∷ pos 5 ∷ neg 24 ∷ pos 16 ∷ neg 4 ∷ pos 8 ∷ pos 16 ∷ pos 3 ∷ neg 8 ∷ pos 4 ∷ neg 6 ∷ neg 8 ∷ pos 6 ∷ pos 5 ∷ pos 8 ∷ neg 5 ∷ pos 4 ∷ pos 24 ∷ neg 16 ∷ neg 6 ∷ pos 8 ∷ neg 5 ∷ pos 1 ∷ pos 8 ∷ neg 5 ∷ neg 3 ∷ neg 24 ∷ pos 0 ∷ pos 0 ∷ pos 32 ∷ pos 3 ∷ pos 0 ∷ pos 0 ∷ pos 3 ∷ pos 0 ∷ pos 21 ∷ pos 0 ∷ neg 1 ∷ pos 0 ∷ pos 1 ∷ pos 1 ∷ neg 3 ∷ pos 0 ∷ neg 14 ∷ neg 9 ∷ pos 2 ∷ neg 8 ∷ neg 14 ∷ neg 1 ∷ pos 3 ∷ pos 10 ∷ pos 1 ∷ neg 3 ∷ pos 13 ∷ neg 2 ∷ neg 3 ∷ pos 30 ∷ pos 2 ∷ pos 3 ∷ neg 6 ∷ pos 1 ∷ pos 8 ∷ neg 2 ∷ neg 2 ∷ pos 3 ∷ pos 2 ∷ pos 0 ∷ pos 3 ∷ neg 14 ∷ neg 1 ∷ neg 8 ∷ neg 12 ∷ pos 0 ∷ pos 11 ∷ pos 5 ∷ pos 0 ∷ pos 0 ∷ pos 1 ∷ neg 1 ∷ pos 31 ∷ neg 1 ∷ pos 1 ∷ pos 7 ∷ pos 0 ∷ neg 1 ∷ pos 13 ∷ neg 1 ∷ neg 4 ∷ pos 13 ∷ pos 1 ∷ pos 1 ∷ neg 20 ∷ neg 14 ∷ pos 3 ∷ pos 6 ∷ neg 8 ∷ pos 6 ∷ neg 13 ∷ pos 3 ∷ pos 6 ∷ pos 13 ∷ neg 3 ∷ pos 1 ∷ pos 10 ∷ neg 3 ∷ pos 2 ∷ pos 14 ∷ pos 3 ∷ neg 2 ∷ pos 5 ∷ pos 8 ∷ neg 6 ∷ pos 2 ∷ pos 3 ∷ neg 2 ∷ neg 20 ∷ pos 3 ∷ [] }) (pos 398 ∷ pos 810 ∷ pos 544 ∷ pos 162 ∷ pos 238 ∷ pos 420 ∷ pos 432 ∷ pos 320 ∷ pos 30 ∷ neg 242 ∷ neg 180 ∷ neg 12 ∷ neg 112 ∷ neg 348 ∷ neg 442 ∷ neg 376 ∷ neg 228 ∷ neg 106 ∷ neg 136 ∷ neg 214 ∷ neg 130 ∷ pos 72 ∷ pos 196 ∷ pos 191 ∷ pos 142 ∷ pos 139 ∷ pos 216 ∷ pos 291 ∷ pos 255 ∷ pos 133 ∷ pos 51 ∷ pos 51 ∷ pos 60 ∷ pos 12 ∷ neg 80 ∷ neg 160 ∷ neg 176 ∷ neg 137 ∷ neg 110 ∷ neg 130 ∷ neg 150 ∷ neg 122 ∷ neg 58 ∷ pos 4 ∷ pos 35 ∷ pos 34 ∷ pos 45 ∷ pos 92 ∷ pos 137 ∷ pos 140 ∷ pos 113 ∷ pos 87 ∷ pos 78 ∷ pos 74 ∷ pos 55 ∷ pos 11 ∷ neg 37 ∷ neg 56 ∷ neg 52 ∷ neg 58 ∷ neg 79 ∷ neg 90 ∷ neg 84 ∷ neg 65 ∷ neg 40 ∷ neg 20 ∷ neg 14 ∷ neg 6 ∷ pos 20 ∷ pos 44 ∷ pos 50 ∷ pos 47 ∷ pos 43 ∷ pos 46 ∷ pos 53 ∷ pos 53 ∷ pos 36 ∷ pos 18 ∷ pos 10 ∷ pos 2 ∷ neg 13 ∷ neg 29 ∷ pos 438 ∷ pos 913 ∷ pos 682 ∷ pos 276 ∷ pos 302 ∷ pos 460 ∷ pos 479 ∷ pos 372 ∷ pos 58 ∷ neg 270 ∷ neg 259 ∷ neg 99 ∷ neg 177 ∷ neg 398 ∷ neg 504 ∷ neg 456 ∷ neg 297 ∷ neg 139 ∷ neg 135 ∷ neg 205 ∷ neg 125 ∷ pos 85 ∷ pos 234 ∷ pos 255 ∷ pos 212 ∷ pos 190 ∷ pos 242 ∷ pos 312 ∷ pos 280 ∷ pos 148 ∷ pos 38 ∷ pos 4 ∷ pos 2 ∷ neg 31 ∷ neg 117 ∷ neg 205 ∷ neg 224 ∷ neg 181 ∷ neg 147 ∷ neg 152 ∷ neg 165 ∷ neg 142 ∷ neg 70 ∷ pos 14 ∷ pos 53 ∷ pos 51 ∷ pos 62 ∷ pos 104 ∷ pos 146 ∷ pos 154 ∷ pos 126 ∷ pos 83 ∷ pos 60 ∷ pos 62 ∷ pos 54 ∷ pos 14 ∷ neg 40 ∷ neg 75 ∷ neg 80 ∷ neg 70 ∷ neg 68 ∷ neg 81 ∷ neg 89 ∷ neg 74 ∷ neg 44 ∷ neg 17 ∷ pos 0 ∷ pos 10 ∷ pos 24 ∷ pos 40 ∷ pos 53 ∷ pos 58 ∷ pos 56 ∷ pos 54 ∷ pos 50 ∷ pos 45 ∷ pos 35 ∷ pos 16 ∷ []) (replicate 76 (pos 0)) ≡ record { number = 0; state = record { z1 = pos 8; L-z2 = pos 227173; mp = pos 7; LARpp = neg 6554 ∷ pos 10650 ∷ neg 7372 ∷ pos 3276 ∷ neg 8630 ∷ pos 4916 ∷ pos 3276 ∷ pos 4148 ∷ []; u = neg 6 ∷ pos 1 ∷ neg 5 ∷ pos 5 ∷ neg 4 ∷ pos 11 ∷ neg 6 ∷ pos 7 ∷ []; dp = neg 2 ∷ pos 0 ∷ pos 8 ∷ pos 0 ∷ pos 0 ∷ pos 13 ∷ pos 0 ∷ pos 0 ∷ pos 12 ∷ pos 0 ∷ pos 0 ∷ pos 2 ∷ pos 0 ∷ pos 0 ∷ neg 7 ∷ pos 0 ∷ neg 1 ∷ neg 2 ∷ pos 0 ∷ neg 1 ∷ neg 3 ∷ pos 0 ∷ pos 0 ∷ neg 1 ∷ pos 0 ∷ pos 0 ∷ pos 8 ∷ pos 0 ∷ pos 0 ∷ pos 5 ∷ pos 0 ∷ pos 0 ∷ pos 1 ∷ pos 0 ∷ pos 1 ∷ pos 1 ∷ pos 0 ∷ pos 0 ∷ neg 6 ∷ pos 0 ∷ pos 8 ∷ pos 3 ∷ pos 200 ∷ pos 7 ∷ pos 0 ∷ neg 72 ∷ pos 7 ∷ pos 0 ∷ neg 3 ∷ neg 4 ∷ neg 1 ∷ neg 24 ∷ neg 27 ∷ pos 1 ∷ neg 27 ∷ neg 4 ∷ neg 14 ∷ pos 15 ∷ neg 18 ∷ neg 8 ∷ pos 10 ∷ pos 3 ∷ pos 3 ∷ pos 34 ∷ neg 3 ∷ neg 3 ∷ pos 37 ∷ neg 6 ∷ neg 3 ∷ pos 6 ∷ pos 6 ∷ pos 3 ∷ neg 30 ∷ pos 5 ∷ pos 8 ∷ neg 26 ∷ pos 2 ∷ pos 3 ∷ neg 22 ∷ pos 0 ∷ neg 4 ∷ pos 0 ∷ pos 0 ∷ pos 4 ∷ pos 0 ∷ neg 1 ∷ pos 12 ∷ pos 1 ∷ pos 0 ∷ pos 16 ∷ pos 1 ∷ pos 0 ∷ pos 5 ∷ pos 1 ∷ pos 0 ∷ neg 4 ∷ pos 0 ∷ pos 0 ∷ neg 6 ∷ neg 3 ∷ pos 0 ∷ neg 7 ∷ pos 0 ∷ neg 1 ∷ neg 2 ∷ neg 2 ∷ neg 1 ∷ pos 5 ∷ pos 0 ∷ pos 0 ∷ pos 7 ∷ pos 0 ∷ pos 0 ∷ pos 8 ∷ neg 1 ∷ pos 0 ∷ pos 5 ∷ pos 1 ∷ pos 0 ∷ neg 3 ∷ [] }; ending = some complete; marks = some found ∷ some found ∷ some found ∷ some found ∷ []; codewords = pos 24 ∷ pos 45 ∷ pos 11 ∷ pos 15 ∷ pos 1 ∷ pos 9 ∷ pos 5 ∷ pos 4 ∷ pos 88 ∷ pos 3 ∷ pos 0 ∷ pos 5 ∷ pos 7 ∷ pos 2 ∷ pos 3 ∷ pos 3 ∷ pos 3 ∷ pos 4 ∷ pos 4 ∷ pos 4 ∷ pos 4 ∷ pos 3 ∷ pos 3 ∷ pos 3 ∷ pos 3 ∷ pos 42 ∷ pos 0 ∷ pos 2 ∷ pos 0 ∷ pos 2 ∷ pos 6 ∷ pos 5 ∷ pos 4 ∷ pos 3 ∷ pos 3 ∷ pos 3 ∷ pos 3 ∷ pos 4 ∷ pos 4 ∷ pos 4 ∷ pos 4 ∷ pos 3 ∷ pos 82 ∷ pos 3 ∷ pos 0 ∷ pos 0 ∷ pos 7 ∷ pos 4 ∷ pos 4 ∷ pos 3 ∷ pos 0 ∷ pos 3 ∷ pos 1 ∷ pos 4 ∷ pos 3 ∷ pos 3 ∷ pos 4 ∷ pos 4 ∷ pos 4 ∷ pos 47 ∷ pos 0 ∷ pos 0 ∷ pos 0 ∷ pos 3 ∷ pos 4 ∷ pos 5 ∷ pos 3 ∷ pos 5 ∷ pos 3 ∷ pos 3 ∷ pos 3 ∷ pos 3 ∷ pos 4 ∷ pos 4 ∷ pos 4 ∷ pos 4 ∷ [] }
 unfolding opened
 e32-speechlike-10 = refl
 
--- stray low bits; two lags by rule
+-- loud; two lags by rule
 pub e13-lowbits-34 : encode (record { z1 = pos 8696; L-z2 = pos 171361098; mp = pos 5230; LARpp = neg 25394 ∷ pos 0 ∷ pos 0 ∷ pos 0 ∷ neg 220 ∷ pos 546 ∷ neg 656 ∷ pos 436 ∷ []; u = pos 728 ∷ pos 8 ∷ pos 7 ∷ pos 7 ∷ pos 9 ∷ pos 8 ∷ pos 6 ∷ pos 9 ∷ []; dp = pos 7 ∷ pos 12 ∷ pos 0 ∷ pos 7 ∷ pos 12 ∷ pos 0 ∷ pos 7 ∷ pos 12 ∷ pos 0 ∷ pos 7 ∷ pos 12 ∷ pos 0 ∷ pos 7 ∷ pos 12 ∷ pos 0 ∷ pos 7 ∷ pos 12 ∷ pos 0 ∷ pos 7 ∷ pos 12 ∷ pos 0 ∷ pos 7 ∷ pos 12 ∷ pos 0 ∷ pos 7 ∷ pos 12 ∷ pos 0 ∷ pos 7 ∷ pos 16 ∷ neg 1 ∷ pos 2 ∷ pos 16 ∷ pos 0 ∷ pos 4 ∷ pos 12 ∷ pos 0 ∷ pos 9 ∷ pos 12 ∷ pos 0 ∷ pos 8 ∷ pos 11 ∷ pos 4 ∷ pos 0 ∷ pos 11 ∷ pos 4 ∷ pos 0 ∷ pos 14 ∷ pos 4 ∷ pos 0 ∷ pos 14 ∷ pos 4 ∷ pos 0 ∷ pos 14 ∷ pos 4 ∷ pos 0 ∷ pos 14 ∷ pos 4 ∷ pos 0 ∷ pos 4 ∷ pos 15 ∷ pos 0 ∷ neg 4 ∷ pos 20 ∷ pos 7 ∷ neg 4 ∷ pos 12 ∷ pos 7 ∷ pos 4 ∷ pos 12 ∷ pos 7 ∷ pos 4 ∷ pos 12 ∷ pos 7 ∷ pos 4 ∷ pos 12 ∷ pos 7 ∷ pos 4 ∷ pos 12 ∷ pos 7 ∷ pos 0 ∷ pos 0 ∷ pos 16 ∷ pos 7 ∷ pos 0 ∷ pos 8 ∷ pos 7 ∷ pos 0 ∷ pos 8 ∷ pos 7 ∷ pos 0 ∷ pos 8 ∷ pos 7 ∷ pos 0 ∷ pos 8 ∷ pos 7 ∷ pos 0 ∷ pos 8 ∷ pos 7 ∷ pos 0 ∷ pos 8 ∷ pos 7 ∷ pos 0 ∷ pos 8 ∷ pos 7 ∷ pos 0 ∷ pos 8 ∷ pos 7 ∷ pos 0 ∷ pos 8 ∷ pos 7 ∷ pos 0 ∷ pos 8 ∷ pos 7 ∷ pos 0 ∷ pos 8 ∷ pos 7 ∷ pos 4 ∷ pos 7 ∷ pos 7 ∷ pos 12 ∷ [] }) (pos 17392 ∷ pos 17392 ∷ pos 30608 ∷ pos 30608 ∷ pos 30608 ∷ pos 30608 ∷ pos 30608 ∷ pos 30608 ∷ pos 30608 ∷ pos 30608 ∷ pos 30608 ∷ pos 30608 ∷ pos 30608 ∷ pos 30608 ∷ pos 30608 ∷ pos 30608 ∷ pos 30608 ∷ pos 30608 ∷ pos 30608 ∷ pos 30608 ∷ pos 30608 ∷ pos 30608 ∷ pos 30608 ∷ pos 30608 ∷ pos 30608 ∷ pos 30608 ∷ pos 30608 ∷ pos 30608 ∷ pos 30608 ∷ pos 30608 ∷ pos 30608 ∷ pos 30608 ∷ pos 30608 ∷ pos 30608 ∷ pos 30608 ∷ pos 30608 ∷ pos 30608 ∷ pos 30608 ∷ pos 30608 ∷ pos 30608 ∷ pos 30608 ∷ pos 30608 ∷ pos 30608 ∷ pos 30608 ∷ pos 30608 ∷ pos 30608 ∷ pos 30608 ∷ pos 30608 ∷ pos 30608 ∷ pos 30608 ∷ pos 30608 ∷ pos 30608 ∷ pos 30608 ∷ pos 30608 ∷ pos 30608 ∷ pos 30608 ∷ pos 30608 ∷ pos 30608 ∷ pos 30608 ∷ pos 30608 ∷ pos 30608 ∷ pos 30608 ∷ pos 30608 ∷ pos 30608 ∷ pos 30608 ∷ pos 30608 ∷ pos 30608 ∷ pos 30608 ∷ pos 30608 ∷ pos 30608 ∷ pos 30608 ∷ pos 30608 ∷ pos 30608 ∷ pos 30608 ∷ pos 30608 ∷ pos 30608 ∷ pos 30608 ∷ pos 30608 ∷ pos 30608 ∷ pos 30608 ∷ pos 30608 ∷ pos 30608 ∷ pos 30608 ∷ pos 30608 ∷ pos 30608 ∷ pos 30608 ∷ pos 30608 ∷ pos 30608 ∷ pos 30608 ∷ pos 30608 ∷ pos 30608 ∷ pos 30608 ∷ pos 30608 ∷ pos 30608 ∷ pos 30608 ∷ pos 30608 ∷ pos 30608 ∷ pos 30608 ∷ pos 30608 ∷ pos 30608 ∷ pos 30608 ∷ neg 30472 ∷ neg 30472 ∷ neg 30472 ∷ neg 30472 ∷ neg 30472 ∷ neg 30472 ∷ neg 30472 ∷ neg 30472 ∷ neg 30472 ∷ neg 30472 ∷ neg 30472 ∷ neg 30472 ∷ neg 30472 ∷ neg 30472 ∷ neg 30472 ∷ neg 30472 ∷ neg 30472 ∷ neg 30472 ∷ neg 30472 ∷ neg 30472 ∷ neg 30472 ∷ neg 30472 ∷ neg 30472 ∷ neg 30472 ∷ neg 30472 ∷ neg 30472 ∷ neg 30472 ∷ neg 30472 ∷ neg 30472 ∷ neg 30472 ∷ neg 30472 ∷ neg 30472 ∷ neg 30472 ∷ neg 30472 ∷ neg 30472 ∷ neg 30472 ∷ neg 30472 ∷ neg 30472 ∷ neg 30472 ∷ neg 30472 ∷ neg 30472 ∷ neg 30472 ∷ neg 30472 ∷ neg 30472 ∷ neg 30472 ∷ neg 30472 ∷ neg 30472 ∷ neg 30472 ∷ neg 30472 ∷ neg 30472 ∷ neg 30472 ∷ neg 30472 ∷ neg 30472 ∷ neg 30472 ∷ neg 30472 ∷ neg 30472 ∷ neg 30472 ∷ neg 30472 ∷ neg 30472 ∷ []) (replicate 76 (pos 0)) ≡ record { number = 0; state = record { z1 = neg 15236; L-z2 = neg 613231102; mp = neg 18714; LARpp = neg 7372 ∷ neg 4916 ∷ neg 3276 ∷ neg 2458 ∷ neg 2624 ∷ neg 1638 ∷ neg 656 ∷ neg 1422 ∷ []; u = neg 2608 ∷ neg 1435 ∷ neg 1004 ∷ neg 803 ∷ neg 683 ∷ neg 590 ∷ neg 529 ∷ neg 504 ∷ []; dp = pos 0 ∷ pos 1322 ∷ pos 2 ∷ pos 0 ∷ pos 874 ∷ pos 2 ∷ pos 0 ∷ pos 765 ∷ pos 1 ∷ pos 0 ∷ pos 766 ∷ pos 1 ∷ pos 0 ∷ pos 766 ∷ pos 1 ∷ pos 0 ∷ pos 765 ∷ pos 1 ∷ pos 0 ∷ pos 765 ∷ pos 1 ∷ pos 0 ∷ pos 765 ∷ pos 1 ∷ pos 0 ∷ pos 765 ∷ pos 1 ∷ pos 0 ∷ pos 765 ∷ pos 1 ∷ pos 0 ∷ pos 765 ∷ pos 0 ∷ pos 2 ∷ pos 765 ∷ pos 0 ∷ pos 2 ∷ pos 766 ∷ pos 0 ∷ pos 1 ∷ pos 7 ∷ pos 0 ∷ pos 8 ∷ pos 3591 ∷ pos 0 ∷ pos 8 ∷ pos 3591 ∷ pos 0 ∷ pos 8 ∷ pos 3591 ∷ pos 0 ∷ pos 8 ∷ pos 3591 ∷ pos 4 ∷ pos 7 ∷ pos 3591 ∷ pos 12 ∷ pos 0 ∷ neg 441 ∷ pos 16 ∷ neg 1 ∷ neg 26429 ∷ pos 16 ∷ pos 0 ∷ pos 4036 ∷ pos 12 ∷ pos 0 ∷ pos 4041 ∷ pos 12 ∷ pos 0 ∷ neg 3128 ∷ pos 11 ∷ pos 4 ∷ neg 3136 ∷ pos 11 ∷ pos 4 ∷ neg 3136 ∷ pos 14 ∷ pos 4 ∷ neg 3136 ∷ neg 671 ∷ pos 0 ∷ pos 1 ∷ neg 1209 ∷ pos 0 ∷ pos 1 ∷ neg 1209 ∷ pos 0 ∷ pos 1 ∷ neg 1209 ∷ pos 0 ∷ pos 1 ∷ neg 1209 ∷ pos 0 ∷ pos 1 ∷ neg 1209 ∷ pos 1 ∷ pos 0 ∷ neg 1164 ∷ pos 2 ∷ pos 0 ∷ neg 1075 ∷ pos 2 ∷ pos 0 ∷ neg 1164 ∷ pos 1 ∷ pos 0 ∷ neg 1164 ∷ pos 1 ∷ pos 0 ∷ neg 1433 ∷ pos 1 ∷ pos 0 ∷ neg 1434 ∷ pos 1 ∷ pos 0 ∷ neg 1434 ∷ pos 1 ∷ pos 0 ∷ neg 314 ∷ [] }; ending = some complete; marks = some found ∷ some rule ∷ some found ∷ some rule ∷ []; codewords = pos 23 ∷ pos 26 ∷ pos 16 ∷ pos 8 ∷ pos 6 ∷ pos 3 ∷ pos 3 ∷ pos 1 ∷ pos 94 ∷ pos 3 ∷ pos 1 ∷ pos 37 ∷ pos 7 ∷ pos 2 ∷ pos 4 ∷ pos 4 ∷ pos 4 ∷ pos 4 ∷ pos 4 ∷ pos 4 ∷ pos 4 ∷ pos 4 ∷ pos 4 ∷ pos 4 ∷ pos 4 ∷ pos 40 ∷ pos 0 ∷ pos 1 ∷ pos 24 ∷ pos 7 ∷ pos 7 ∷ pos 6 ∷ pos 6 ∷ pos 6 ∷ pos 6 ∷ pos 6 ∷ pos 6 ∷ pos 6 ∷ pos 6 ∷ pos 6 ∷ pos 6 ∷ pos 6 ∷ pos 97 ∷ pos 3 ∷ pos 3 ∷ pos 61 ∷ pos 4 ∷ pos 4 ∷ pos 4 ∷ pos 4 ∷ pos 4 ∷ pos 3 ∷ pos 0 ∷ pos 4 ∷ pos 4 ∷ pos 3 ∷ pos 3 ∷ pos 3 ∷ pos 3 ∷ pos 40 ∷ pos 0 ∷ pos 0 ∷ pos 29 ∷ pos 2 ∷ pos 0 ∷ pos 0 ∷ pos 0 ∷ pos 0 ∷ pos 0 ∷ pos 1 ∷ pos 7 ∷ pos 0 ∷ pos 0 ∷ pos 1 ∷ pos 1 ∷ pos 1 ∷ [] }
 unfolding opened
 e13-lowbits-34 = refl
