@@ -56,6 +56,7 @@ unfoldable pub refusal : List (Bool × ℕ) → ℕ
 refusal [] = 0
 refusal ((wrong, n) ∷ rows) = cond wrong n (refusal rows)
 
+-- a list that has not n elements
 abbrev pub not-of : {A : Type 0} → ℕ → List A → Bool
 not-of n xs = not (eqb (length xs) n)
 
@@ -64,20 +65,33 @@ unfoldable pub fit : ℕ → ℤ → Bool
 fit width (pos n) = ltb n (2 ^ width)
 fit width (negsuc n) = false
 
+-- codewords of which each does
 unfoldable pub fits : List ℤ → Bool
 fits c = every (λ b. b) (zipWith fit widths c)
 
+-- samples lent are not 160
 abbrev pub samples-row : List ℤ → Bool × ℕ
 samples-row samples = (not-of 160 samples, 1)
 
+-- codewords lent are not 76
 abbrev pub codewords-row : List ℤ → Bool × ℕ
 codewords-row codewords = (not-of 76 codewords, 2)
 
+-- state handed in is unsound
 abbrev pub state-row : Bool → Bool × ℕ
 state-row sound = (not sound, 3)
 
+-- bytes lent are not 33
 abbrev pub bytes-row : List ℕ → Bool × ℕ
 bytes-row bytes = (not-of 33 bytes, 4)
+
+-- some codeword is wider than its field
+abbrev pub fields-row : List ℤ → Bool × ℕ
+fields-row codewords = (not (fits codewords), 5)
+
+-- a spare bit is 1
+abbrev pub spare-row : List ℕ → Bool × ℕ
+spare-row bytes = (not (every (eqb 0) (spare bytes)), 6)
 
 unfoldable pub encode-refusal : Coder → List ℤ → List ℤ → ℕ
 encode-refusal c samples codewords = refusal (samples-row samples ∷ codewords-row codewords ∷ state-row (sound-coder c) ∷ [])
@@ -86,8 +100,7 @@ unfoldable pub decode-refusal : Decoder → List ℤ → List ℤ → ℕ
 decode-refusal m codewords samples = refusal (samples-row samples ∷ codewords-row codewords ∷ state-row (sound-decoder m) ∷ [])
 
 unfoldable pub pack-refusal : List ℤ → List ℕ → ℕ
-pack-refusal codewords bytes = refusal (codewords-row codewords ∷ bytes-row bytes ∷ (not (fits codewords), 5) ∷ [])
+pack-refusal codewords bytes = refusal (codewords-row codewords ∷ bytes-row bytes ∷ fields-row codewords ∷ [])
 
 unfoldable pub unpack-refusal : List ℕ → List ℤ → ℕ
-unpack-refusal bytes codewords =
-    refusal (codewords-row codewords ∷ bytes-row bytes ∷ (not (every (eqb 0) (spare bytes)), 6) ∷ [])
+unpack-refusal bytes codewords = refusal (codewords-row codewords ∷ bytes-row bytes ∷ spare-row bytes ∷ [])
