@@ -1,12 +1,14 @@
 -- What decode promises: its answer and the samples it leaves, read as 01's, are those of the definition.
-use Prim.Native.Nat.{ℕ}
+use Prim.Native.Nat.{ℕ, suc}
 use mathlib.Core.Path.{_≡_, sym, ap, _∙_}
 use mathlib.Core.List.{List}
 use lib.IntN.{ℤ}
 use Rattle.decoder.specs.declared.Decoder.{Decoder}
 use Rattle.decoder.specs.declared.Decoded.{Decoded}
 use Rattle.standard.specs.Decoder as standard
+use Rattle.standard.specs.House.{decode-refusal}
 use Rattle.standard.specs.Answers as answers
+use Rattle.refusals.specs.Calls.{decode-refused}
 
 -- what the state stands for
 unfoldable pub memory : Decoder → standard.Decoder
@@ -43,3 +45,21 @@ pub one-outcome : (d : Decoder) (codewords lent : List ℤ) (a b : Decoded) (l r
 one-outcome d codewords lent a b l r p q =
     let state = same-state (a .state) (b .state) (p .state ∙ sym (q .state)) in
     (same-answer (p .number ∙ sym (q .number)) state, p .samples ∙ sym (q .samples))
+
+-- ---- what it says of a refusal
+
+-- the number, and the state as handed in
+unfoldable pub refused : ℕ → Decoder → Decoded
+refused n d = record { number = n; state = d }
+
+module _ (d : Decoder) (codewords lent : List ℤ) (n : ℕ) (h : decode-refusal (memory d) codewords lent ≡ suc n) where
+  -- such an answer keeps the promise, with the samples as they were lent
+  pub refusal-keeps : Decodes d codewords lent (refused (suc n) d) lent
+  unfolding refused
+  refusal-keeps =
+      let r = decode-refused (memory d) codewords lent n h in
+      record { number = rw r; state = rw r; samples = rw r }
+
+  -- and no other does
+  pub one-refusal : (a : Decoded) (left : List ℤ) → Decodes d codewords lent a left → (a ≡ refused (suc n) d) × (left ≡ lent)
+  one-refusal a left p = one-outcome d codewords lent a (refused (suc n) d) left lent p refusal-keeps

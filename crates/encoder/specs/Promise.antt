@@ -1,5 +1,5 @@
 -- What encode promises: its answer and the codewords it leaves, read as 01's, are those of the definition.
-use Prim.Native.Nat.{ℕ}
+use Prim.Native.Nat.{ℕ, suc}
 use mathlib.Core.Path.{_≡_, refl, sym, ap, _∙_}
 use mathlib.Core.Option.{Option, none, some}
 use mathlib.Core.List.{List, [], _∷_}
@@ -15,7 +15,9 @@ use Rattle.encoder.specs.declared.Encoded.{Encoded}
 use Rattle.standard.specs.Lpc as lpc
 use Rattle.standard.specs.Coder.{Coder}
 use Rattle.standard.specs.House as house
+use Rattle.standard.specs.House.{encode-refusal}
 use Rattle.standard.specs.Answers as answers
+use Rattle.refusals.specs.Calls.{encode-refused}
 
 -- ---- what the types stand for
 
@@ -118,3 +120,23 @@ one-outcome e samples lent a b l r p q =
     let marks = same-marks (a .marks) (b .marks) (p .marks ∙ sym (q .marks)) in
     let number = p .number ∙ sym (q .number) in
     (same-answer number state ending marks, p .codewords ∙ sym (q .codewords))
+
+-- ---- what it says of a refusal
+
+-- the number, the state as handed in, no ending, no marks
+unfoldable pub refused : ℕ → Encoder → Encoded
+refused n e =
+    let none : Marks = record { first = Mark-of.Absent; second = Mark-of.Absent; third = Mark-of.Absent; fourth = Mark-of.Absent } in
+    record { number = n; state = e; ending = Ending-of.Absent; marks = none }
+
+module _ (e : Encoder) (samples lent : List ℤ) (n : ℕ) (h : encode-refusal (coder e) samples lent ≡ suc n) where
+  -- such an answer keeps the promise, with the codewords as they were lent
+  pub refusal-keeps : Encodes e samples lent (refused (suc n) e) lent
+  unfolding refused ending mark marks
+  refusal-keeps =
+      let r = encode-refused (coder e) samples lent n h in
+      record { number = rw r; state = rw r; ending = rw r; marks = rw r; codewords = rw r }
+
+  -- and no other does
+  pub one-refusal : (a : Encoded) (left : List ℤ) → Encodes e samples lent a left → (a ≡ refused (suc n) e) × (left ≡ lent)
+  one-refusal a left p = one-outcome e samples lent a (refused (suc n) e) left lent p refusal-keeps

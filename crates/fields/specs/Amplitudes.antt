@@ -1,6 +1,6 @@
 -- 4.2.15: xmax and its code, an exponent and the bits of xmax from the highest one down. The code fits its field, and bounds xmax.
 use Prim.Native.Nat.{ℕ, suc, _+_, _*_, _-_, _/_, _^_, _<_, _≤_}
-use mathlib.Core.Path.{_≡_, refl, sym, ap, _∙_}
+use mathlib.Core.Path.{_≡_, refl, ap, _∙_}
 use mathlib.Core.Bool.{Bool, true, false, cond}
 use mathlib.Core.List.{List, map}
 use mathlib.Core.Logic.{⊎-elim}
@@ -16,8 +16,8 @@ use borrow.Author.Tests.{leb-true, leb-false, le-leb, lt-leb}
 use Rattle.integers.specs.Halves.{zar, le-or-lt}
 use Rattle.lists.specs.First.{first, first-le, first-holds, first-least}
 use Rattle.lists.specs.Best.{largest-above, largest-covers, largest-within}
-use Rattle.lists.specs.Tab.{tab, tab-at-zero, map-at}
-use Rattle.standard.specs.Arithmetic.{clip, modulo, keep, plus, within, _>>_, _<<_, abs, peak}
+use Rattle.lists.specs.Tab.{map-at}
+use Rattle.standard.specs.Arithmetic.{within, _>>_, _<<_, abs, peak}
 use Rattle.standard.specs.Tables.{_at_}
 use Rattle.standard.specs.Rpe.{exponent, xmaxc}
 use Rattle.standard.specs.House.{fit}
@@ -133,19 +133,9 @@ xmaxc-fits xmax h =
 abbrev exp-of : ℕ → ℕ
 exp-of c = cond (leb c 15) 0 (c / 8 - 1)
 
--- the greatest xmax that has a code
+-- the greatest xmax that a code can have
 abbrev pub top : ℕ → ℕ
 top c = suc (c - 8 * exp-of c) * 2 ^ (exp-of c + 5) - 1
-
--- computed for each of the 64 codes
-tops : tab (λ c. xmaxc (pos (top c))) 0 64 ≡ tab pos 0 64
-unfolding tab clip modulo keep plus first exponent xmaxc
-tops = refl
-
--- it has the code
-pub top-code : (c : ℕ) → c < 64 → xmaxc (pos (top c)) ≡ pos c
-top-code c h =
-    sym (tab-at-zero (λ c. xmaxc (pos (top c))) 64 c (pos 0) h) ∙ (ap (λ (t : List ℤ). t at c) tops ∙ tab-at-zero pos 64 c (pos 0) h)
 
 -- the parts of a code give its exp
 exp-is : (e m : ℕ) → m ≤ 15 → (0 < e → 8 ≤ m) → exp-of (m + 8 * e) ≡ e
@@ -155,7 +145,7 @@ exp-is e m h f =
     (λ (z : 0 < e). let g = f z in rw (lt-leb (m + 8 * e) 15 (omega arith)) (omega arith))
     (le-or-lt e 0)
 
--- and no xmax above it has
+-- no xmax with that code is above it
 pub top-covers : (xmax : ℤ) → within (pos 0) (pos 32767) xmax ≡ true → leZ xmax (pos (top (natAbs (xmaxc xmax)))) ≡ true
 top-covers xmax h =
     let (n, e, s) = parts-of xmax h in

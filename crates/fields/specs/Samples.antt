@@ -1,20 +1,22 @@
 -- 01, 'Numbers handed over': a sample's 13 valid bits. An output sample has 0 in the low 3, and the coder does not look at these.
 use Prim.Native.Nat.{ℕ, suc, _*_, _-_, _<_, _≤_}
 use mathlib.Core.Path.{_≡_, refl, ap, ap₂, _∙_}
+use mathlib.Core.Bool.{true}
 use mathlib.Core.List.{List, [], _∷_, map, map-map}
 use mathlib.Core.Logic.{⊎-elim}
 use native.Mathlib.Omega.{arith}
 use lib.IntN.{ℤ, pos, negsuc, _*ℤ_}
-use lib.ListN.{length}
 use mir.Syntax.{w16}
 use mir.Val.{SFits, toZ}
 use mir.Facts.{toZ-pos, toZ-neg}
 use Rattle.integers.specs.Halves.{apart, le-or-lt, zar, know}
 use Rattle.integers.specs.Sums.{scale-is, shr-is}
+use Rattle.lists.specs.Every.{every, every-cons}
 use Rattle.standard.specs.Arithmetic.{modulo, keep, _>>_, _<<_}
 use Rattle.standard.specs.Tables.{_at_}
 use Rattle.standard.specs.Frame.{Frame, sample}
 use Rattle.standard.specs.Preprocessing.{downscaled}
+use Rattle.arithmetic.specs.Within.{word, word-is}
 use Rattle.standard.specs.Coder.{Coder, analysis, coded}
 use Rattle.standard.specs.Decoder.{Decoder, srop, decoded}
 use Rattle.arithmetic.specs.Shift.{modulo-below, modulo-scaled, keep-fits, keep-plain}
@@ -70,12 +72,14 @@ decoded-samples m f = simp (map-map, sample-twice)
 -- ---- the coder's samples
 
 -- downscaling sees the 13 bits only
-downscaled-samples : (s : List ℤ) → ((k : ℕ) → k < length s → SFits w16 (s at k)) → downscaled (map sample s) ≡ downscaled s
+downscaled-samples : (s : List ℤ) → every word s ≡ true → downscaled (map sample s) ≡ downscaled s
 unfolding downscaled
 downscaled-samples [] h = refl
-downscaled-samples (x ∷ s) h = ap₂ _∷_ (ap (_<< 2) (sample-bits x (h 0 (omega arith)))) (downscaled-samples s (λ k l. h (suc k) (omega arith)))
+downscaled-samples (x ∷ s) h =
+    let (a, b) = every-cons word x s .0 h in
+    ap₂ _∷_ (ap (_<< 2) (sample-bits x (word-is x a))) (downscaled-samples s b)
 
 -- samples that differ in their low 3 bits are coded alike
-pub coded-samples : (c : Coder) (s : List ℤ) → ((k : ℕ) → k < length s → SFits w16 (s at k)) → coded c (map sample s) ≡ coded c s
+pub coded-samples : (c : Coder) (s : List ℤ) → every word s ≡ true → coded c (map sample s) ≡ coded c s
 unfolding coded analysis
 coded-samples c s h = rw (downscaled-samples s h)

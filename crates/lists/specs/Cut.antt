@@ -1,9 +1,9 @@
 -- A list cut into parts that follow one another.
 use mathlib.Core.Path.{_≡_, refl}
-use mathlib.Core.List.{List, [], _∷_, _++_, append-assoc, append-nil, flatten, foldr, map}
+use mathlib.Core.List.{List, [], _∷_, _++_, append-assoc, flatten, foldr, map}
 use Prim.Native.Nat.{ℕ, _+_, _≤_}
 use native.Mathlib.Omega.{arith}
-use lib.ListN.{length, take, drop, take-append-drop, length-append, length-drop, drop-of-length-le}
+use lib.ListN.{length, take, drop, take-append-drop, length-append, length-drop}
 use lib.Seq.{take-append-seam, drop-append-seam, drop-drop, length-take-le}
 
 -- what the lengths come to; at a literal list it computes
@@ -34,10 +34,6 @@ module _ {A : Type 0} where
   unfolding cut flatten
   cut-rest [] xs = refl
   cut-rest (n ∷ ns) xs = rw (append-assoc, ← drop-drop (sum ns) n xs, cut-rest ns (drop n xs), take-append-drop)
-
-  -- where nothing is left over, the parts joined are the list
-  pub cut-whole : (ns : List ℕ) (xs : List A) → length xs ≤ sum ns → flatten (cut ns xs) ≡ xs
-  cut-whole ns xs h = rw (drop-of-length-le xs h, append-nil) at (cut-rest ns xs)
 
   -- parts joined, with anything after them, are cut into themselves
   pub cut-joined : (ps : List (List A)) (q : List A) → cut (map length ps) (flatten ps ++ q) ≡ ps

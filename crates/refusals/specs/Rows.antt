@@ -4,9 +4,9 @@ use mathlib.Core.Bool.{Bool, true, false, not}
 use mathlib.Core.List.{List, [], _∷_}
 use Prim.Native.Nat.{ℕ, zero, suc}
 use native.Mathlib.Omega.{arith}
-use lib.Dec.{eqb}
 use lib.ListN.{length}
-use borrow.Author.Tests.{not-false, eqb-true}
+use borrow.Author.Tests.{not-false}
+use Rattle.lists.specs.Lengths.{sized-length}
 use Rattle.standard.specs.House.{refusal, not-of}
 use Rattle.standard.specs.Answers.{answer}
 
@@ -16,10 +16,6 @@ unfolding refusal
 refusal-none true n rows e = absurd (omega arith)
 refusal-none false n rows e = (refl, e)
 
--- a list that is tested for a length and not found wrong has that length
-pub right-length : {A : Type 0} (n : ℕ) (xs : List A) → not-of n xs ≡ false → length xs ≡ n
-right-length n xs e = eqb-true (length xs) n (not-false (eqb (length xs) n) e)
-
 -- three rows that give 0, the first two of lengths: all three are right
 pub three-right : {A B : Type 0} (l m i j k : ℕ) (xs : List A) (ys : List B) (good : Bool)
     → refusal ((not-of l xs, suc i) ∷ (not-of m ys, suc j) ∷ (not good, suc k) ∷ []) ≡ 0 → (length xs ≡ l) × (length ys ≡ m) × (good ≡ true)
@@ -27,7 +23,7 @@ three-right l m i j k xs ys good e =
     let r = refusal-none (not-of l xs) i _ e in
     let s = refusal-none (not-of m ys) j _ (r .1) in
     let t = refusal-none (not good) k _ (s .1) in
-    (right-length l xs (r .0), right-length m ys (s .0), not-false good (t .0))
+    (sized-length l xs (not-false _ (r .0)), sized-length m ys (not-false _ (s .0)), not-false good (t .0))
 
 -- what holds where the call is done, and at each refusal, holds of the answer
 pub by-answer : {A : Type 0} (Q : A → Type 0) (n : ℕ) {done : A} {refused : ℕ → A}

@@ -9,8 +9,7 @@ use mir.Syntax.{w16, w32}
 use mir.Val.{SFits}
 use Rattle.integers.specs.Halves.{P, N, apart, zar, know}
 use Rattle.integers.specs.Sums.{add-is, minus-is, mul-is, scale-is, shr-is}
-use Rattle.standard.specs.Arithmetic.{within, _>>_, _<<_, low, up, sub, L-add}
-use Rattle.standard.specs.Tables.{neg}
+use Rattle.standard.specs.Arithmetic.{_>>_, _<<_, low, up, sub, L-add}
 use Rattle.standard.specs.Preprocessing.{Offset, offset}
 use Rattle.arithmetic.specs.Within.{range-is, range-yes}
 use Rattle.arithmetic.specs.Clip.{plus-plain, minus-plain}
@@ -68,13 +67,6 @@ module _ (m : Offset) (h : sound-offset m ≡ true) where
       let e-is = minus-is (m .L-z2) (pos 32768 *ℤ m .z1) in
       let one = apart (m .L-z2) in
       range-yes 1073611249 1073611249 (m .L-z2) (omega (arith, sound-is)) (omega (arith, sound-is))
-
-  -- and its high part, msp, is from −32765 to 32764
-  pub msp-in : within (neg 32765) (pos 32764) (m .L-z2 >> 15) ≡ true
-  msp-in =
-      let x-in = range-is 1073611249 1073611249 (m .L-z2) L-z2-in in
-      let q-is = shr-is (m .L-z2) 32768 (omega arith) in
-      range-yes 32765 32764 (m .L-z2 >> 15) (omega arith) (omega arith)
 
 -- ---- the step
 

@@ -55,12 +55,7 @@ pub home-coder-sound : sound-coder home-coder ≡ true
 unfolding home-coder sound-coder
 home-coder-sound = refl
 
--- a coder is sound where what its offset filter keeps is
-pub coder-offset : (c : Coder) → sound-coder c ≡ sound-offset (record { z1 = c .z1; L-z2 = c .L-z2 })
-unfolding sound-coder
-coder-offset c = refl
-
--- so a sound coder that codes words is sound
+-- a sound coder that codes words is sound
 pub coded-sound : (c : Coder) (s : List ℤ) → sound-coder c ≡ true → every word s ≡ true → sound-coder (coded c s .0) ≡ true
 unfolding sound-coder coded analysis
 coded-sound c s h w = offset-all-sound (record { z1 = c .z1; L-z2 = c .L-z2 }) s h w
