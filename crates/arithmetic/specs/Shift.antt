@@ -4,17 +4,17 @@ use mathlib.Core.Path.{_≡_, refl, sym, ap, _∙_}
 use mathlib.Core.Bool.{true, false}
 use mathlib.Core.Logic.{⊎-elim}
 use native.Mathlib.Omega.{arith}
-use native.Mathlib.Nat.{div-eq-of-lt, mod-lt, mod-eq-of-lt, div-add-mod', mul-mod-left, mul-div-left, zero-mod, lt-of-mul-lt-mul-right, mul-assoc, div-le-of-le-mul, div-lt-iff-lt-mul, le-of-suc-le-suc}
+use native.Mathlib.Nat.{div-eq-of-lt, mod-lt, mod-eq-of-lt, div-add-mod', mul-mod-left, mul-div-left, zero-mod, add-mul-mod-self-right, lt-of-mul-lt-mul-right, mul-assoc, div-le-of-le-mul, div-lt-iff-lt-mul, le-of-suc-le-suc}
 use lib.Pow.{pow-mono, pow-add, pow-pos}
 use lib.Arith.{digits-div, digits-mod, mod-mul}
-use lib.IntN.{ℤ, pos, negsuc, _*ℤ_, negℤ, natAbs}
+use lib.IntN.{ℤ, pos, negsuc, _+ℤ_, _*ℤ_, negℤ, natAbs}
 use lib.Signed.{ltZ}
 use mir.Syntax.{Width, w16, w32}
 use mir.Val.{SFits, bits, hbits, ofZ, toZ}
 use mir.Facts.{toZ-ofZ, toZ-pos, toZ-neg, sfits-toZ}
 use mir.ValLaws.{half-full}
-use Rattle.integers.specs.Halves.{P, N, zar, mem, le-or-lt}
-use Rattle.integers.specs.Sums.{shr-is}
+use Rattle.integers.specs.Halves.{P, N, zar, mem, apart, abs-is, le-or-lt}
+use Rattle.integers.specs.Sums.{add-is, shr-is}
 use Rattle.integers.specs.Ranges.{shr-fits, back}
 use Rattle.standard.specs.Arithmetic.{modulo, keep, up, _>>_, shr, shl}
 
@@ -48,6 +48,14 @@ modulo-neg M X (suc q) m h e =
     let a : m ≡ (m - suc (q / M)) + suc (q / M) = omega arith in
     let x : X ≡ (m - suc (q / M)) * M + (M - suc (q % M)) = omega (arith, ap (λ (k : ℕ). k * M) a) in
     rw x (digits-mod (m - suc (q / M)) (omega arith))
+
+-- a multiple of m that makes a number positive leaves its low part
+pub modulo-raised : (z : ℤ) (m k : ℕ) → 0 < m → N z ≤ k * m → modulo z m ≡ natAbs (z +ℤ pos (k * m)) % m
+unfolding modulo
+modulo-raised (pos n) m k h l = sym (add-mul-mod-self-right n k m)
+modulo-raised (negsuc n) m k h l =
+    let y = negsuc n +ℤ pos (k * m) in
+    sym (modulo-neg m (natAbs y) (suc n) k h (omega (arith, abs-is y, add-is (negsuc n) (pos (k * m)), apart y)))
 
 -- what the machine's shift gives
 pub up-bits : (w : Width) (z : ℤ) (n : ℕ) → SFits w z → toZ w ((ofZ w z * 2 ^ n) % 2 ^ bits w) ≡ up w z n

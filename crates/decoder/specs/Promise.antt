@@ -6,6 +6,7 @@ use lib.IntN.{ℤ}
 use Rattle.decoder.specs.declared.Decoder.{Decoder}
 use Rattle.decoder.specs.declared.Decoded.{Decoded}
 use Rattle.standard.specs.Decoder as standard
+use Rattle.standard.specs.Frame.{received}
 use Rattle.standard.specs.House.{decode-refusal}
 use Rattle.standard.specs.Answers as answers
 use Rattle.refusals.specs.Calls.{decode-refused}
@@ -63,3 +64,12 @@ module _ (d : Decoder) (codewords lent : List ℤ) (n : ℕ) (h : decode-refusal
   -- and no other does
   pub one-refusal : (a : Decoded) (left : List ℤ) → Decodes d codewords lent a left → (a ≡ refused (suc n) d) × (left ≡ lent)
   one-refusal a left p = one-outcome d codewords lent a (refused (suc n) d) left lent p refusal-keeps
+
+-- ---- what it says where nothing is refused
+
+-- the number 0, the state and the samples of 4.3
+pub done-keeps : (d : Decoder) (codewords lent : List ℤ) (s : Decoder) (left : List ℤ) → decode-refusal (memory d) codewords lent ≡ 0
+    → memory s ≡ standard.decoded (memory d) (received codewords) .0 → left ≡ standard.decoded (memory d) (received codewords) .1
+    → Decodes d codewords lent (decoded 0 s) left
+unfolding answers.decode answers.answer
+done-keeps d codewords lent s left h p q = record { number = rw h; state = rw h p; samples = rw h q }

@@ -1,4 +1,16 @@
-// The decoder's state and what decode answers: the types that its promise (specs/Promise.antt) speaks of.
+// The decoder: its state, home, and decode, which is the whole of 4.3 behind the refusals of 01. What decode promises is in
+// specs/Promise.antt.
+use synthesis::Cells;
+ghost use mathlib.Core.Path.{_≡_};
+ghost use mathlib.Core.Bool.{true};
+ghost use mathlib.Core.List.{_++_};
+ghost use lib.IntN.{pos};
+ghost use lib.ListN.{length, replicate};
+ghost use Rattle.standard.specs.LongTerm.{is-lag};
+ghost use Rattle.standard.specs.Frame.{received};
+ghost use Rattle.standard.specs.Decoder as standard;
+ghost use Rattle.standard.specs.House.{home-decoder, sound-decoder};
+ghost use Rattle.decoder.specs.Promise.{memory, Decodes, refused};
 
 // 4.3: what is kept for the next frame. drp holds the residual's last 120 samples, the oldest first; nrp is the remembered lag.
 pub struct Decoder {
@@ -13,4 +25,108 @@ pub struct Decoder {
 pub struct Decoded {
     pub number: u8,
     pub state: Decoder,
+}
+
+// The history at the front of a frame's residual, which is still to come.
+fn remembered(drp: [i16; 120]) -> [i16; 280]
+    ensures { λ r. ⌜ r ≡ drp ++ replicate 160 (pos 0) ⌝ }
+{
+    let mut all = [0i16; 280];
+    for k in 0..120usize {
+        all[k] = drp[k];
+    }
+    all
+}
+
+// Its last 120 samples, for the next one.
+fn last(drp: &[i16]) -> [i16; 120]
+    requires { ⌜ length (now drp) ≡ 120 ⌝ }
+    ensures { λ r. ⌜ r ≡ now (drp .entry) ⌝ }
+{
+    let mut kept = [0i16; 120];
+    for k in 0..120usize {
+        kept[k] = drp[k];
+    }
+    kept
+}
+
+// 4.3, the whole: 76 codewords, 160 samples, and the state after them.
+fn frame(m: Decoder, codewords: &[i16], samples: &mut [i16]) -> Decoder
+    requires { ⌜ (length (now codewords) ≡ 76) × ((length (now samples) ≡ 160) × (is-lag (m .nrp) ≡ true)) ⌝ }
+    ensures state { λ r. ⌜ memory r ≡ standard.decoded (memory m) (received (now (codewords .entry))) .0 ⌝ }
+    ensures samples { λ r. ⌜ now (samples .exit) ≡ standard.decoded (memory m) (received (now (codewords .entry))) .1 ⌝ }
+{
+    let before = m.drp;
+    let old = m.larpp;
+    let v = m.v;
+    let mut drp = remembered(before);
+    let nrp = residual::decoded(m.nrp, codewords, &mut drp[0..280]);
+    let larpp = shortterm::ratios(codewords::larc_valid(&codewords[0..8]));
+    let cells = speech::frame(
+        Cells { v: v, msr: m.msr },
+        old,
+        larpp,
+        &drp[120..280],
+        samples,
+    );
+    let after = cells.v;
+    Decoder {
+        drp: last(&drp[160..280]),
+        nrp: nrp,
+        larpp: larpp,
+        v: after,
+        msr: cells.msr,
+    }
+}
+
+// 01: a state may be handed in when its remembered lag is from 40 to 120.
+fn sound(m: Decoder) -> bool
+    ensures { λ r. ⌜ r ≡ sound-decoder (memory m) ⌝ }
+{
+    40 <= m.nrp && m.nrp <= 120
+}
+
+// A refusal: the number, and the state as handed in.
+fn refuse(number: u8, m: Decoder) -> Decoded
+    ensures { λ r. ⌜ r ≡ refused number m ⌝ }
+{
+    Decoded {
+        number: number,
+        state: m,
+    }
+}
+
+impl Decoder {
+    // Every carried value 0, the remembered lag 40 (4.3.2).
+    pub fn home() -> Decoder
+        ensures { λ r. ⌜ memory r ≡ home-decoder ⌝ }
+    {
+        Decoder {
+            drp: [0; 120],
+            nrp: 40,
+            larpp: [0; 8],
+            v: [0; 8],
+            msr: 0,
+        }
+    }
+
+    // The 160 samples of 76 codewords, of which only valid bits are used.
+    pub fn decode(self, codewords: &[i16], samples: &mut [i16]) -> Decoded
+        ensures { λ r. ⌜ Decodes self (now (codewords .entry)) (now (samples .entry)) r (now (samples .exit)) ⌝ }
+    {
+        if samples.len() != 160 {
+            return refuse(1, self);
+        }
+        if codewords.len() != 76 {
+            return refuse(2, self);
+        }
+        if !sound(self) {
+            return refuse(3, self);
+        }
+        let state = frame(self, codewords, samples);
+        Decoded {
+            number: 0,
+            state: state,
+        }
+    }
 }

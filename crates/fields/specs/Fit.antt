@@ -1,13 +1,15 @@
 -- What the test of a field says, for `omega`; and the test of several fields.
 use Prim.Native.Nat.{ℕ, _^_, _<_}
-use mathlib.Core.Path.{_≡_, sym}
-use mathlib.Core.Bool.{Bool, true, true≢false}
+use mathlib.Core.Path.{_≡_, refl, sym}
+use mathlib.Core.Bool.{Bool, true, false, true≢false}
 use mathlib.Core.List.{List, _++_, zipWith}
 use native.Mathlib.Omega.{arith}
-use lib.IntN.{ℤ, pos, negsuc}
+use lib.Dec.{ltb}
+use lib.IntN.{ℤ, pos, negsuc, natAbs}
 use lib.ListN.{length, replicate}
+use lib.Signed.{ltZ}
 use borrow.Author.Tests.{ltb-true, lt-ltb}
-use Rattle.integers.specs.Halves.{P, N}
+use Rattle.integers.specs.Halves.{P, N, zar}
 use Rattle.lists.specs.Tab.{zip-append, zip-replicate}
 use Rattle.lists.specs.Every.{every, every-append, every-map}
 use Rattle.standard.specs.House.{fit}
@@ -23,6 +25,18 @@ pub fit-is : (width : ℕ) (z : ℤ) → fit width z ≡ true → (P z < 2 ^ wid
 unfolding fit
 fit-is width (pos n) h = omega (arith, ltb-true n (2 ^ width) h)
 fit-is width (negsuc n) h = absurd (true≢false (sym h))
+
+-- a negative codeword does not fit
+pub fit-negative : (width : ℕ) (c : ℤ) → ltZ c (pos 0) ≡ true → fit width c ≡ false
+unfolding fit
+fit-negative width (pos n) h = absurd (omega zar)
+fit-negative width (negsuc n) h = refl
+
+-- another is compared with the field's limit
+pub fit-compared : (width : ℕ) (c : ℤ) → ltZ c (pos 0) ≡ false → fit width c ≡ ltb (natAbs c) (2 ^ width)
+unfolding fit
+fit-compared width (pos n) h = refl
+fit-compared width (negsuc n) h = absurd (omega zar)
 
 -- ---- codewords beside the widths of their fields
 

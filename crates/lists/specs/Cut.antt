@@ -1,6 +1,6 @@
 -- A list cut into parts that follow one another.
 use mathlib.Core.Path.{_≡_, refl}
-use mathlib.Core.List.{List, [], _∷_, _++_, append-assoc, flatten, foldr, map}
+use mathlib.Core.List.{List, [], _∷_, _++_, append-nil, append-assoc, flatten, foldr, map}
 use Prim.Native.Nat.{ℕ, _+_, _≤_}
 use native.Mathlib.Omega.{arith}
 use lib.ListN.{length, take, drop, take-append-drop, length-append, length-drop}
@@ -46,3 +46,9 @@ module _ {A : Type 0} where
   unfolding flatten
   flatten-length [] = refl
   flatten-length (p ∷ ps) = rw (length-append, flatten-length ps)
+
+  -- parts joined, and one more
+  pub flatten-last : (ps : List (List A)) (p : List A) → flatten (ps ++ (p ∷ [])) ≡ flatten ps ++ p
+  unfolding flatten
+  flatten-last [] p = rw append-nil
+  flatten-last (q ∷ ps) p = rw (flatten-last ps p, append-assoc)

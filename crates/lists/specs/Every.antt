@@ -3,9 +3,11 @@ use mathlib.Core.Path.{_≡_, refl}
 use mathlib.Core.Bool.{Bool, true, _&&_, and-eq-true-iff, and-assoc}
 use mathlib.Core.Logic.{_↔_}
 use mathlib.Core.List.{List, [], _∷_, _++_, map, zip, zipWith, flatten}
-use Prim.Native.Nat.{ℕ, zero, suc, _<_}
+use Prim.Native.Nat.{ℕ, zero, suc, _+_, _≤_, _<_}
+use native.Mathlib.Numerals.{add-one}
 use native.Mathlib.Omega.{arith}
-use lib.ListN.{length, getD, take, drop, replicate, take-append-drop}
+use lib.ListN.{length, getD, take, drop, replicate, take-append-drop, drop-of-length-le}
+use lib.Seq.{drop-cons}
 use Rattle.lists.specs.Tab.{tab, tab-length, tab-at-zero}
 use Rattle.lists.specs.Cut.{cut, cut-rest}
 
@@ -54,7 +56,23 @@ module _ {A : Type 0} (p : A → Bool) where
   every-append [] ys = refl
   every-append (x ∷ xs) ys = rw (every-append xs ys, and-assoc)
 
-  -- and what holds of a list holds of the rest of it
+  -- a turn of a loop whose invariant is `every p (drop i xs) ≡ every p xs`
+  pub every-next : (xs : List A) (i : ℕ) (d : A) → i < length xs → every (drop i xs) ≡ (p (getD xs i d) && every (drop (i + 1) xs))
+  unfolding every
+  every-next xs i d h = rw (add-one, drop-cons xs i d)
+
+  -- after the loop
+  pub every-end : (xs : List A) (i : ℕ) → length xs ≤ i → every (drop i xs) ≡ true
+  unfolding every
+  every-end xs i h = rw (drop-of-length-le xs h)
+
+  -- and what holds of a list holds of the front of it
+  pub every-take : (n : ℕ) (xs : List A) → every xs ≡ true → every (take n xs) ≡ true
+  every-take n xs e =
+      let t = rw (← take-append-drop n xs, every-append) at e in
+      and-eq-true-iff (every (take n xs)) (every (drop n xs)) .0 t .0
+
+  -- and of the rest
   pub every-drop : (n : ℕ) (xs : List A) → every xs ≡ true → every (drop n xs) ≡ true
   every-drop n xs e =
       let t = rw (← take-append-drop n xs, every-append) at e in

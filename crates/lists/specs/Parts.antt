@@ -39,6 +39,34 @@ module _ {A : Type 0} where
       let e : length (put a (length p) xs p) ≡ length xs = simp (length-append, length-take, length-drop) (omega arith) in
       lends-length (a + length p) ps (put a (length p) xs p) (omega arith) ∙ e
 
+module _ {A : Type 0} (xs y₀ y₁ y₂ : List A) (k₀ k₁ k₂ : ℕ) where
+  -- what xs is after three parts of it, of k₀ to k₂ elements, were lent and came back as y₀ to y₂
+  abbrev pub lent-three : List A
+  lent-three = put (k₀ + k₁) k₂ (put k₀ k₁ (put 0 k₀ xs y₀) y₁) y₂
+
+  -- and after a fourth
+  abbrev pub lent-four : List A → ℕ → List A
+  lent-four y₃ k₃ = put (k₀ + k₁ + k₂) k₃ lent-three y₃
+
+  module _ (k₃ : ℕ) (h₀ : length y₀ ≡ k₀) (h₁ : length y₁ ≡ k₁) (h₂ : length y₂ ≡ k₂) (h : length xs ≡ k₀ + k₁ + k₂ + k₃) where
+    -- the list keeps its length
+    pub three-length : length lent-three ≡ length xs
+    unfolding lends flatten
+    three-length =
+        rw (← h₀, ← h₁, ← h₂)
+        (lends-length (length y₀) (y₁ ∷ y₂ ∷ []) (y₀ ++ drop (length y₀) xs) (simp (length-append, length-drop) (omega arith))
+        ∙ simp (length-append, length-drop) (omega arith))
+
+    -- four parts that fill the list are the list
+    pub four : (y₃ : List A) → length y₃ ≡ k₃ → lent-four y₃ k₃ ≡ y₀ ++ (y₁ ++ (y₂ ++ y₃))
+    unfolding lends flatten
+    four y₃ h₃ =
+        rw (← h₀, ← h₁, ← h₂, ← h₃)
+        (lends-all y₀ (drop (length y₀) xs) (y₁ ∷ y₂ ∷ y₃ ∷ []) (simp (length-drop, length-append) (omega arith)) ∙ simp append-nil)
+
+    pub four-length : (y₃ : List A) → length y₃ ≡ k₃ → length (lent-four y₃ k₃) ≡ length xs
+    four-length y₃ h₃ = rw (four y₃ h₃) (simp length-append (omega arith))
+
 module _ {A : Type 0} (xs y₀ y₁ y₂ y₃ y₄ : List A) (k₀ k₁ k₂ k₃ k₄ : ℕ) where
   -- what xs is after five parts of it, of k₀ to k₄ elements, were lent and came back as y₀ to y₄
   abbrev pub lent-five : List A

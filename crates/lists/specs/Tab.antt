@@ -3,7 +3,7 @@ use mathlib.Core.Path.{_≡_, refl, sym, ap, _∙_}
 use mathlib.Core.List.{List, [], _∷_, _++_, map, zipWith}
 use Prim.Native.Nat.{ℕ, zero, suc, _+_, _≤_, _<_, min}
 use native.Mathlib.Omega.{arith}
-use lib.ListN.{length, getD, replicate, length-map, List·getD-map}
+use lib.ListN.{length, getD, take, drop, replicate, length-map, List·getD-map}
 use lib.Seq.{ext-getD}
 
 module _ {A : Type 0} where
@@ -74,6 +74,27 @@ module _ {A B C : Type 0} (f : A → B → C) where
   zip-front [] ys zs h = refl
   zip-front (x ∷ xs) [] zs h = absurd (omega arith)
   zip-front (x ∷ xs) (y ∷ ys) zs h = ap (f x y ∷_) (zip-front xs ys zs (omega arith))
+
+  -- the front of two lists that go together
+  pub zip-take : (n : ℕ) (xs : List A) (ys : List B) → take n (zipWith f xs ys) ≡ zipWith f (take n xs) (take n ys)
+  unfolding zipWith
+  zip-take zero xs ys = refl
+  zip-take (suc n) [] ys = refl
+  zip-take (suc n) (x ∷ xs) [] = refl
+  zip-take (suc n) (x ∷ xs) (y ∷ ys) = rw (zip-take n xs ys)
+
+  zip-none : (xs : List A) → zipWith f xs [] ≡ []
+  unfolding zipWith
+  zip-none [] = refl
+  zip-none (x ∷ xs) = refl
+
+  -- and the rest
+  pub zip-drop : (n : ℕ) (xs : List A) (ys : List B) → drop n (zipWith f xs ys) ≡ zipWith f (drop n xs) (drop n ys)
+  unfolding zipWith
+  zip-drop zero xs ys = refl
+  zip-drop (suc n) [] ys = refl
+  zip-drop (suc n) (x ∷ xs) [] = sym (zip-none (drop n xs))
+  zip-drop (suc n) (x ∷ xs) (y ∷ ys) = zip-drop n xs ys
 
 -- one element against each of a list is a map
 pub zip-replicate : {A B C : Type 0} (f : A → B → C) (a : A) (n : ℕ) (ys : List B) → length ys ≡ n → zipWith f (replicate n a) ys ≡ map (f a) ys

@@ -1,12 +1,13 @@
 -- A number as its bits, the lowest first, there and back.
 use mathlib.Core.Path.{_≡_, refl}
 use mathlib.Core.Bool.{Bool, true, and-eq-true-iff}
-use mathlib.Core.List.{List, [], _∷_}
-use Prim.Native.Nat.{ℕ, zero, suc, _+_, _*_, _/_, _%_, _^_, _<_}
-use native.Mathlib.Nat.{pow-succ'}
+use mathlib.Core.List.{List, [], _∷_, _++_}
+use Prim.Native.Nat.{ℕ, zero, suc, _+_, _*_, _/_, _%_, _^_, _<_, _≤_}
+use native.Mathlib.Nat.{pow-succ', mod-lt, mod-add-div, mul-assoc, mul-suc, mul-le-mul-left}
 use native.Mathlib.Omega.{arith}
 use lib.Dec.{ltb}
-use lib.ListN.{length}
+use lib.ListN.{length, replicate}
+use lib.Pow.{pow-add, pow-pos, pow-mono}
 use borrow.Author.Tests.{ltb-true, lt-ltb}
 use Rattle.lists.specs.Every.{every}
 use Rattle.standard.specs.Packed.{bits, value}
@@ -78,3 +79,39 @@ low-first =
       read-below = value-below;
       write-read = bits-value;
     }
+
+-- a number of h bits is one of k bits, where k is no less
+pub more-bits : (h k n : ℕ) → n < 2 ^ h → h ≤ k → n < 2 ^ k
+more-bits h k n l m = omega (arith, pow-mono {i = h} m)
+
+-- ---- two numbers side by side: a in the low m bits, b in the n bits above them
+
+-- a number of n bits above one of m bits is one of m + n bits
+pub join-below : (m n a b : ℕ) → a < 2 ^ m → b < 2 ^ n → a + 2 ^ m * b < 2 ^ (m + n)
+join-below m n a b h k =
+    let t : 2 ^ m * suc b ≤ 2 ^ m * 2 ^ n = mul-le-mul-left (2 ^ m) k in
+    rw (pow-add 2 m n) (omega (arith, mul-suc (2 ^ m) b))
+
+-- it has the bits of both
+pub bits-join : (m n a b : ℕ) → a < 2 ^ m → bits (m + n) (a + 2 ^ m * b) ≡ bits m a ++ bits n b
+unfolding bits
+bits-join zero n a b h =
+    let e : a + 2 ^ 0 * b ≡ b = omega arith in
+    let z : zero + n ≡ n = omega arith in
+    rw (z, e)
+bits-join (suc m) n a b h =
+    let p : 2 ^ suc m * b ≡ 2 * (2 ^ m * b) = rw (pow-succ' 2 m, mul-assoc) in
+    let s : suc m + n ≡ suc (m + n) = omega arith in
+    let low : (a + 2 ^ suc m * b) % 2 ≡ a % 2 = rw p (omega arith) in
+    let high : (a + 2 ^ suc m * b) / 2 ≡ a / 2 + 2 ^ m * b = rw p (omega arith) in
+    rw (s, low, high, bits-join m n (a / 2) b (omega (arith, pow-succ' 2 m)))
+
+-- so the bits of a number are those of its remainder and then those of its quotient
+pub bits-split : (m n x : ℕ) → bits (m + n) x ≡ bits m (x % 2 ^ m) ++ bits n (x / 2 ^ m)
+bits-split m n x = rw (mod-add-div x (2 ^ m)) at (bits-join m n (x % 2 ^ m) (x / 2 ^ m) (mod-lt x (pow-pos m)))
+
+-- 0 has only zeros
+pub bits-zero : (w : ℕ) → bits w 0 ≡ replicate w 0
+unfolding bits
+bits-zero zero = refl
+bits-zero (suc w) = rw (bits-zero w)

@@ -1,17 +1,18 @@
--- 01, 'Refusal numbers': of what they do not refuse, pack and unpack each undo the other.
-use mathlib.Core.Path.{_≡_}
+-- 01, 'Refusal numbers': of what they do not refuse, pack and unpack each undo the other, in the definitions and in any outcome that the promises allow.
+use mathlib.Core.Path.{_≡_, refl, sym, ap, _∙_}
 use mathlib.Core.Bool.{true}
 use mathlib.Core.List.{List}
-use Prim.Native.Nat.{ℕ}
+use Prim.Native.Nat.{ℕ, zero, suc}
 use lib.Dec.{ltb}
 use lib.IntN.{ℤ}
 use lib.ListN.{length}
 use Rattle.lists.specs.Every.{every}
 use Rattle.standard.specs.Packed.{packed, unpacked}
 use Rattle.standard.specs.House.{pack-refusal, unpack-refusal}
-use Rattle.standard.specs.Answers.{pack, unpack}
+use Rattle.standard.specs.Answers.{answer, Packed, pack, Unpacked, unpack}
 use Rattle.refusals.specs.Calls.{pack-allows, pack-allowed, pack-done, unpack-allows, unpack-allowed, unpack-done}
 use Rattle.packing.specs.RoundTrip.{packed-length, packed-spare, unpack-packed, unpacked-length, unpacked-fits, pack-unpacked}
+use Rattle.packing.specs.Promise.{Packs, Unpacks}
 
 -- a frame that was packed is unpacked as it was
 pub unpack-pack : (c w : List ℤ) (b : List ℕ)
@@ -28,3 +29,36 @@ pack-unpack b b′ w e f g =
     let a = unpack-allowed b w e in
     let r = pack-allows (unpacked b) b′ (unpacked-length b) g (unpacked-fits b (a .1)) in
     rw (unpack-done b w e, pack-done (unpacked b) b′ r, pack-unpacked b (a .1) f (a .2))
+
+-- ---- over the promises
+
+-- the number that an answer gives is the one that it was made from
+answer-number : {A : Type 0} (number : A → ℕ) (n : ℕ) {done : A} {refused : ℕ → A}
+    → number done ≡ 0 → ((k : ℕ) → number (refused k) ≡ k) → number (answer n done refused) ≡ n
+unfolding answer
+answer-number number zero d r = d
+answer-number number (suc n) d r = r (suc n)
+
+-- a pack that answers 0 refused nothing
+packs-allowed : (c : List ℤ) (b : List ℕ) {left : List ℕ} → Packs c b 0 left → pack-refusal c b ≡ 0
+unfolding pack
+packs-allowed c b p = sym (answer-number (λ (r : Packed). r .number) (pack-refusal c b) refl (λ k. refl)) ∙ sym (p .number)
+
+-- nor did an unpack
+unpacks-allowed : (b : List ℕ) (w : List ℤ) {left : List ℤ} → Unpacks b w 0 left → unpack-refusal b w ≡ 0
+unfolding unpack
+unpacks-allowed b w p = sym (answer-number (λ (r : Unpacked). r .number) (unpack-refusal b w) refl (λ k. refl)) ∙ sym (p .number)
+
+-- what pack left, with the answer 0, any unpack into 76 codewords gives back
+pub unpack-undoes : (c w : List ℤ) (b left : List ℕ) → Packs c b 0 left → length w ≡ 76
+    → (n : ℕ) (words : List ℤ) → Unpacks left w n words → (n ≡ 0) × (words ≡ c)
+unpack-undoes c w b left p g n words q =
+    let e = ap (λ (l : List ℕ). unpack l w) (p .bytes) ∙ unpack-pack c w b (packs-allowed c b p) g in
+    (rw e at (q .number), rw e at (q .codewords))
+
+-- what unpack left, with the answer 0, any pack into 33 bytes gives back
+pub pack-undoes : (b b′ : List ℕ) (w left : List ℤ) → Unpacks b w 0 left → every (λ x. ltb x 256) b ≡ true → length b′ ≡ 33
+    → (n : ℕ) (bytes : List ℕ) → Packs left b′ n bytes → (n ≡ 0) × (bytes ≡ b)
+pack-undoes b b′ w left p f g n bytes q =
+    let e = ap (λ (l : List ℤ). pack l b′) (p .codewords) ∙ pack-unpack b b′ w (unpacks-allowed b w p) f g in
+    (rw e at (q .number), rw e at (q .bytes))

@@ -1,6 +1,9 @@
 pub mod Bits
 pub mod Fields
 pub mod Layout
+pub mod Waiting
 pub mod RoundTrip
-pub mod Calls
+pub mod Turns
 pub mod Promise
+pub mod Returns
+pub mod Calls

@@ -75,10 +75,10 @@ words = codeword low-first
 abbrev bytes : Code ℕ
 bytes = number low-first
 
-abbrev eights : List ℕ
+abbrev pub eights : List ℕ
 eights = replicate 33 8
 
-abbrev zeros : List ℕ
+abbrev pub zeros : List ℕ
 zeros = replicate 4 0
 
 room : 0 + (sum widths + 4) ≡ 264
@@ -88,7 +88,8 @@ packed-is : (c : List ℤ) → packed c ≡ laid words bytes widths eights [] ze
 unfolding packed frame-bits
 packed-is c = refl
 
-byte-bits-is : (b : List ℕ) → length b ≡ 33 → byte-bits b ≡ joined bytes eights b
+-- the bits of 33 bytes are those of fields of eight bits
+pub byte-bits-is : (b : List ℕ) → length b ≡ 33 → byte-bits b ≡ joined bytes eights b
 unfolding byte-bits
 byte-bits-is b h = rw (zip-replicate bits 8 33 b h)
 

@@ -1,6 +1,6 @@
 -- 01, 'Refusal numbers', of the four calls: 0 exactly when nothing is wrong; and what a refusal hands back.
 use mathlib.Core.Path.{_≡_}
-use mathlib.Core.Bool.{true}
+use mathlib.Core.Bool.{true, false}
 use mathlib.Core.Option.{none}
 use mathlib.Core.List.{List}
 use Prim.Native.Nat.{ℕ, suc}
@@ -11,15 +11,28 @@ use Rattle.lists.specs.Every.{every}
 use Rattle.standard.specs.Coder.{Coder}
 use Rattle.standard.specs.Decoder.{Decoder}
 use Rattle.standard.specs.Packed.{packed, unpacked, spare}
-use Rattle.standard.specs.House.{refusal, sound-coder, sound-decoder, fits, encode-refusal, decode-refusal, pack-refusal, unpack-refusal}
+use Rattle.standard.specs.House.{sound-coder, sound-decoder, fits, encode-refusal, decode-refusal, pack-refusal, unpack-refusal}
 use Rattle.standard.specs.Answers.{answer, encode, decode, pack, unpack}
-use Rattle.refusals.specs.Rows.{three-right}
+use Rattle.refusals.specs.Rows.{three-first, three-second, three-third, three-none, three-right}
 
 module _ (c : Coder) (s w : List ℤ) where
   -- encode refuses nothing else than wrong lengths and an unsound state
   pub encode-allows : length s ≡ 160 → length w ≡ 76 → sound-coder c ≡ true → encode-refusal c s w ≡ 0
-  unfolding encode-refusal refusal
-  encode-allows h g e = rw (h, g, e)
+  unfolding encode-refusal
+  encode-allows = three-none 160 76 1 2 3 s w (sound-coder c)
+
+  -- each of these gives its number, the lowest of several
+  pub encode-first : (length s ≡ 160 → ⊥) → encode-refusal c s w ≡ 1
+  unfolding encode-refusal
+  encode-first = three-first 160 76 1 2 3 s w (sound-coder c)
+
+  pub encode-second : length s ≡ 160 → (length w ≡ 76 → ⊥) → encode-refusal c s w ≡ 2
+  unfolding encode-refusal
+  encode-second = three-second 160 76 1 2 3 s w (sound-coder c)
+
+  pub encode-third : length s ≡ 160 → length w ≡ 76 → sound-coder c ≡ false → encode-refusal c s w ≡ 3
+  unfolding encode-refusal
+  encode-third = three-third 160 76 1 2 3 s w (sound-coder c)
 
   -- what it allows has none of these
   pub encode-allowed : encode-refusal c s w ≡ 0 → (length s ≡ 160) × (length w ≡ 76) × (sound-coder c ≡ true)
@@ -35,8 +48,21 @@ module _ (c : Coder) (s w : List ℤ) where
 module _ (m : Decoder) (w s : List ℤ) where
   -- decode refuses nothing else than wrong lengths and an unsound state
   pub decode-allows : length s ≡ 160 → length w ≡ 76 → sound-decoder m ≡ true → decode-refusal m w s ≡ 0
-  unfolding decode-refusal refusal
-  decode-allows h g e = rw (h, g, e)
+  unfolding decode-refusal
+  decode-allows = three-none 160 76 1 2 3 s w (sound-decoder m)
+
+  -- each of these gives its number, the lowest of several
+  pub decode-first : (length s ≡ 160 → ⊥) → decode-refusal m w s ≡ 1
+  unfolding decode-refusal
+  decode-first = three-first 160 76 1 2 3 s w (sound-decoder m)
+
+  pub decode-second : length s ≡ 160 → (length w ≡ 76 → ⊥) → decode-refusal m w s ≡ 2
+  unfolding decode-refusal
+  decode-second = three-second 160 76 1 2 3 s w (sound-decoder m)
+
+  pub decode-third : length s ≡ 160 → length w ≡ 76 → sound-decoder m ≡ false → decode-refusal m w s ≡ 3
+  unfolding decode-refusal
+  decode-third = three-third 160 76 1 2 3 s w (sound-decoder m)
 
   -- what it allows has none of these
   pub decode-allowed : decode-refusal m w s ≡ 0 → (length s ≡ 160) × (length w ≡ 76) × (sound-decoder m ≡ true)
@@ -51,8 +77,21 @@ module _ (m : Decoder) (w s : List ℤ) where
 module _ (c : List ℤ) (b : List ℕ) where
   -- pack refuses nothing else than wrong lengths and codewords that do not fit
   pub pack-allows : length c ≡ 76 → length b ≡ 33 → fits c ≡ true → pack-refusal c b ≡ 0
-  unfolding pack-refusal refusal
-  pack-allows h g e = rw (h, g, e)
+  unfolding pack-refusal
+  pack-allows = three-none 76 33 2 4 5 c b (fits c)
+
+  -- each of these gives its number, the lowest of several
+  pub pack-first : (length c ≡ 76 → ⊥) → pack-refusal c b ≡ 2
+  unfolding pack-refusal
+  pack-first = three-first 76 33 2 4 5 c b (fits c)
+
+  pub pack-second : length c ≡ 76 → (length b ≡ 33 → ⊥) → pack-refusal c b ≡ 4
+  unfolding pack-refusal
+  pack-second = three-second 76 33 2 4 5 c b (fits c)
+
+  pub pack-third : length c ≡ 76 → length b ≡ 33 → fits c ≡ false → pack-refusal c b ≡ 5
+  unfolding pack-refusal
+  pack-third = three-third 76 33 2 4 5 c b (fits c)
 
   -- what it allows has none of these
   pub pack-allowed : pack-refusal c b ≡ 0 → (length c ≡ 76) × (length b ≡ 33) × (fits c ≡ true)
@@ -72,8 +111,21 @@ module _ (c : List ℤ) (b : List ℕ) where
 module _ (b : List ℕ) (w : List ℤ) where
   -- unpack refuses nothing else than wrong lengths and spare bits that are not 0
   pub unpack-allows : length w ≡ 76 → length b ≡ 33 → every (eqb 0) (spare b) ≡ true → unpack-refusal b w ≡ 0
-  unfolding unpack-refusal refusal
-  unpack-allows h g e = rw (h, g, e)
+  unfolding unpack-refusal
+  unpack-allows = three-none 76 33 2 4 6 w b (every (eqb 0) (spare b))
+
+  -- each of these gives its number, the lowest of several
+  pub unpack-first : (length w ≡ 76 → ⊥) → unpack-refusal b w ≡ 2
+  unfolding unpack-refusal
+  unpack-first = three-first 76 33 2 4 6 w b (every (eqb 0) (spare b))
+
+  pub unpack-second : length w ≡ 76 → (length b ≡ 33 → ⊥) → unpack-refusal b w ≡ 4
+  unfolding unpack-refusal
+  unpack-second = three-second 76 33 2 4 6 w b (every (eqb 0) (spare b))
+
+  pub unpack-third : length w ≡ 76 → length b ≡ 33 → every (eqb 0) (spare b) ≡ false → unpack-refusal b w ≡ 6
+  unfolding unpack-refusal
+  unpack-third = three-third 76 33 2 4 6 w b (every (eqb 0) (spare b))
 
   -- what it allows has none of these
   pub unpack-allowed : unpack-refusal b w ≡ 0 → (length w ≡ 76) × (length b ≡ 33) × (every (eqb 0) (spare b) ≡ true)

@@ -5,7 +5,7 @@ use mathlib.Core.List.{List, [], _∷_}
 use Prim.Native.Nat.{ℕ, zero, suc}
 use native.Mathlib.Omega.{arith}
 use lib.ListN.{length}
-use borrow.Author.Tests.{not-false}
+use borrow.Author.Tests.{not-false, eq-eqb, ne-eqb}
 use Rattle.lists.specs.Lengths.{sized-length}
 use Rattle.standard.specs.House.{refusal, not-of}
 use Rattle.standard.specs.Answers.{answer}
@@ -31,3 +31,30 @@ pub by-answer : {A : Type 0} (Q : A → Type 0) (n : ℕ) {done : A} {refused : 
 unfolding answer
 by-answer Q zero d r = d refl
 by-answer Q (suc n) d r = r (suc n)
+
+-- ---- the number that three such rows give
+
+module _ {A B : Type 0} (l m i j k : ℕ) (xs : List A) (ys : List B) (good : Bool) where
+  -- what is wrong with the first, then the second length, then with what is tested
+  abbrev pub three : List (Bool × ℕ)
+  three = (not-of l xs, i) ∷ (not-of m ys, j) ∷ (not good, k) ∷ []
+
+  -- a wrong first length gives the first number, whatever else is wrong
+  pub three-first : (length xs ≡ l → ⊥) → refusal three ≡ i
+  unfolding refusal
+  three-first h = rw (ne-eqb (length xs) l h)
+
+  -- a wrong second one the second
+  pub three-second : length xs ≡ l → (length ys ≡ m → ⊥) → refusal three ≡ j
+  unfolding refusal
+  three-second h g = rw (eq-eqb (length xs) l h, ne-eqb (length ys) m g)
+
+  -- and the third is given where both are right
+  pub three-third : length xs ≡ l → length ys ≡ m → good ≡ false → refusal three ≡ k
+  unfolding refusal
+  three-third h g e = rw (eq-eqb (length xs) l h, eq-eqb (length ys) m g, e)
+
+  -- 0 where nothing is wrong
+  pub three-none : length xs ≡ l → length ys ≡ m → good ≡ true → refusal three ≡ 0
+  unfolding refusal
+  three-none h g e = rw (eq-eqb (length xs) l h, eq-eqb (length ys) m g, e)

@@ -17,15 +17,15 @@ use Rattle.lists.specs.Every.{every, every-at}
 use Rattle.lists.specs.Tab.{tab, tab-at-zero, map-at, zip-at}
 use Rattle.standard.specs.Tables.{_at_, MIC, MAC, H, LARc-bits}
 
--- past its end a table has 0
-pub past-end : (t : List ℤ) {i : ℕ} → length t ≤ i → pos 0 ≡ t at i
-past-end t {i} h = sym (List·getD-eq-default t (pos 0) {n = i} h)
+-- past its end a table has what is asked for there: 0
+pub past-end : {A : Type 0} {d : A} (t : List A) {i : ℕ} → length t ≤ i → d ≡ getD t i d
+past-end {A} {d} t {i} h = sym (List·getD-eq-default t d {n = i} h)
 
 -- a bound on the size of every entry, by one test over the table: `within A 20480 refl i`, under `unfolding A every`
 pub within : (t : List ℤ) (b : ℕ) → every (λ z. leb (natAbs z) b) t ≡ true → (i : ℕ) → natAbs (t at i) ≤ b
 within t b e i =
     ⊎-elim
-    (λ h. rw (← past-end t {i = i} h) (omega arith))
+    (λ h. rw (← past-end {d = pos 0} t {i = i} h) (omega arith))
     (λ h. leb-true (natAbs (t at i)) b (every-at (λ z. leb (natAbs z) b) t i (pos 0) e h))
     (le-or-lt (length t) i)
 

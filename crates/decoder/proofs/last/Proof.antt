@@ -1,0 +1,48 @@
+use mathlib.Core.Path.{_≡_, refl, _∙_}
+use mathlib.Core.List.{List}
+use Prim.Native.Nat.{_-_, _≤_}
+use native.Mathlib.Omega.{arith}
+use borrow.Author.Needs.{needs}
+use lib.IntN.{ℤ, pos}
+use lib.ListN.{length, getD, length-set}
+use mir.Syntax.{w16}
+use mir.Val.{SFits}
+use Rattle.integers.specs.Ranges.{back}
+use Rattle.lists.specs.Fill.{filled, fill-next, fill-end}
+use Rattle.decoder.proofs.last.Statement.{statement}
+use Rattle.decoder.proofs.last.Tie as tie
+
+abbrev Inv-loop : tie.InvT-loop
+Inv-loop drp kept₀ k₀ kept k = (k ≤ 120) × (length kept ≡ 120) × (kept ≡ filled k drp kept₀)
+
+abbrev μ-loop : tie.MeasureT-loop
+μ-loop drp kept₀ k₀ kept k = 120 - k
+
+loop-again : tie.Need-loop-again Inv-loop μ-loop
+loop-again c =
+    let t = c .before .before in
+    let drp = t .before .args .drp .now in
+    let r : SFits w16 (getD drp (t .loop .k) (pos 0)) = search needs in (
+      search needs,
+      simp length-set (t .loop .inv .1),
+      fill-next drp _ (t .loop .k) (t .loop .inv .2) (pos 0) (omega arith) (omega arith) (back r),
+    )
+
+returns : tie.Need-returns Inv-loop μ-loop
+returns c = let t = c .before in fill-end (t .before .args .drp .now) _ (t .loop .k) (t .loop .inv .2) (omega arith) (omega arith)
+
+pub last-spec : {M : Type 1} → statement M
+last-spec =
+    tie.close
+    (tie.spec
+    Inv-loop
+    μ-loop
+    (λ c. (search needs, refl, refl))
+    (λ c. search needs)
+    (λ c. search needs)
+    (λ c. search needs)
+    (λ c. search needs)
+    (λ c. search needs)
+    (λ c. search needs)
+    loop-again
+    returns)

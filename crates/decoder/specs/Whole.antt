@@ -1,0 +1,44 @@
+-- 4.3, the whole: what a frame of codewords comes to, by the steps in which it is done.
+use mathlib.Core.Path.{_≡_, refl}
+use mathlib.Core.List.{List, _++_, append-nil, flatten}
+use Prim.Native.Nat.{_≤_}
+use native.Mathlib.Omega.{arith}
+use lib.IntN.{ℤ}
+use lib.ListN.{length, take, drop, length-append, drop-of-length-le}
+use lib.Seq.{take-take, take-at}
+use Rattle.standard.specs.Frame.{received}
+use Rattle.standard.specs.ShortTerm.{ratios, coefficients}
+use Rattle.standard.specs.Decoder as standard
+use Rattle.synthesis.specs.Speech.{spoken-is}
+use Rattle.speech.specs.Four.{frame-spoken}
+use Rattle.residual.specs.Received.{ratio-words, received-is, residual}
+
+-- the residual, the ratios, then the samples in one pass
+pub decoded-is : (m : standard.Decoder) (c : List ℤ)
+    → let t = residual (m .drp) (m .nrp) c in
+    let larpp = ratios (ratio-words c) in
+    let s = frame-spoken (m .v) (m .msr) (m .LARpp) larpp (flatten (t .1)) in
+    standard.decoded m (received c) ≡ (record { drp = t .0 .0; nrp = t .0 .1; LARpp = larpp; v = s .0 .0; msr = s .0 .1 }, s .1)
+unfolding standard.decoded residual frame-spoken
+decoded-is m c = rw (received-is c, spoken-is) refl
+
+-- so a state and samples that are those of the steps are those of the frame
+pub whole : (m : standard.Decoder) (c drp : List ℤ) (nrp : ℤ) (larpp v : List ℤ) (msr : ℤ) (samples : List ℤ)
+    → let t = residual (m .drp) (m .nrp) c in
+    let s = frame-spoken (m .v) (m .msr) (m .LARpp) larpp (flatten (t .1)) in
+    drp ≡ t .0 .0 → nrp ≡ t .0 .1 → larpp ≡ ratios (ratio-words c) → v ≡ s .0 .0 → msr ≡ s .0 .1 → samples ≡ s .1
+    → (record { drp = drp; nrp = nrp; LARpp = larpp; v = v; msr = msr } ≡ standard.decoded m (received c) .0) × (samples ≡ standard.decoded m (received c) .1)
+whole m c drp nrp larpp v msr samples a b l e f g = rw (decoded-is m c, a, b, e, f, g, l) (refl, refl)
+
+-- ---- one list for the history and the residual
+
+module _ {A : Type 0} (drp z : List A) (d : length drp ≡ 120) (l : length z ≡ 160) where
+  -- it is lent whole, and starts with the history
+  pub lent-history : take 120 (take 280 (drp ++ z)) ≡ drp
+  lent-history = rw (take-take 120 280 (drp ++ z) (omega arith)) (take-at drp z 120 d)
+
+  -- what comes back is all of it
+  pub lent-all : (y : List A) → y ++ drop 280 (drp ++ z) ≡ y
+  lent-all y =
+      let whole : length (drp ++ z) ≤ 280 = rw length-append (omega arith) in
+      rw (drop-of-length-le (drp ++ z) {i = 280} whole, append-nil)

@@ -1,0 +1,7 @@
+use borrow.Author.Needs.{needs}
+use Rattle.codewords.specs.Bits.{power}
+use Rattle.packing.proofs.power.Statement.{statement}
+use Rattle.packing.proofs.power.Tie as tie
+
+pub power-spec : {M : Type 1} → statement M
+power-spec = tie.close (tie.spec (λ c. search needs) (λ c. power (c .args .n) (c .pre)))

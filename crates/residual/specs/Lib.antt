@@ -1,0 +1,6 @@
+pub mod Window
+pub mod Received
+pub mod Last
+pub mod Turn
+pub mod Sub
+pub mod Frame

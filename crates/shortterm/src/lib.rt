@@ -1,0 +1,74 @@
+// 4.2.8, 4.2.9: the decoded ratios, their interpolation and the coefficients of both lattices.
+ghost use mathlib.Core.Path.{_≡_};
+ghost use Rattle.standard.specs.ShortTerm.{LARpp, ratios, from-ratio, rp};
+ghost use Rattle.shortterm.specs.Stretches.{LARp, rps};
+
+// 4.2.8: LARpp[i + 1].
+fn larpp(i: usize, larc: i16) -> i16
+    ensures { λ r. ⌜ r ≡ LARpp i larc ⌝ }
+{
+    let temp1 = words::sub(
+        words::add(larc, tables::lar_mic(i)) << 10,
+        tables::lar_b(i) << 1,
+    );
+    let temp = words::mult_r(tables::lar_inva(i), temp1);
+    words::add(temp, temp)
+}
+
+// 4.2.8: LARpp[1..8].
+pub fn ratios(larc: [i16; 8]) -> [i16; 8]
+    ensures { λ r. ⌜ r ≡ ratios larc ⌝ }
+{
+    let mut larpp_all = [0i16; 8];
+    for i in 0..8usize {
+        larpp_all[i] = larpp(i, larc[i]);
+    }
+    larpp_all
+}
+
+// 4.2.9.1: a ratio between the last frame's and this one's, in stretch j: samples 0 to 12, 13 to 26, 27 to 39, 40 to 159.
+fn larp(j: usize, old: i16, new: i16) -> i16
+    ensures { λ r. ⌜ r ≡ LARp j old new ⌝ }
+{
+    if j == 0 {
+        words::add(words::add(old >> 2, new >> 2), old >> 1)
+    } else if j == 1 {
+        words::add(old >> 1, new >> 1)
+    } else if j == 2 {
+        words::add(words::add(old >> 2, new >> 2), new >> 1)
+    } else {
+        new
+    }
+}
+
+// 4.2.9.2: the piecewise line, of a size.
+fn from_ratio(temp: i16) -> i16
+    ensures { λ r. ⌜ r ≡ from-ratio temp ⌝ }
+{
+    if temp < 11059 {
+        temp << 1
+    } else if temp < 20070 {
+        words::add(temp, 11059)
+    } else {
+        words::add(temp >> 2, 26112)
+    }
+}
+
+// 4.2.9.2: rp[i] of LARp[i].
+fn rp(larp: i16) -> i16
+    ensures { λ r. ⌜ r ≡ rp larp ⌝ }
+{
+    let temp = from_ratio(words::abs(larp));
+    if larp < 0 { words::sub(0, temp) } else { temp }
+}
+
+// 4.2.9: rp[1..8] in stretch j.
+pub fn coefficients(j: usize, old: [i16; 8], new: [i16; 8]) -> [i16; 8]
+    ensures { λ r. ⌜ r ≡ rps j old new ⌝ }
+{
+    let mut rps = [0i16; 8];
+    for i in 0..8usize {
+        rps[i] = rp(larp(j, old[i], new[i]));
+    }
+    rps
+}
