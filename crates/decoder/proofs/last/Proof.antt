@@ -1,12 +1,9 @@
-use mathlib.Core.Path.{_≡_, refl, _∙_}
-use mathlib.Core.List.{List}
+use mathlib.Core.Path.{_≡_, refl}
 use Prim.Native.Nat.{_-_, _≤_}
 use native.Mathlib.Omega.{arith}
-use borrow.Author.Needs.{needs}
-use lib.IntN.{ℤ, pos}
-use lib.ListN.{length, getD, length-set}
-use mir.Syntax.{w16}
-use mir.Val.{SFits}
+use borrow.Author.Needs.{needs, sfits-of}
+use lib.IntN.{pos}
+use lib.ListN.{length, length-set}
 use Rattle.integers.specs.Ranges.{back}
 use Rattle.lists.specs.Fill.{filled, fill-next, fill-end}
 use Rattle.decoder.proofs.last.Statement.{statement}
@@ -21,11 +18,10 @@ abbrev μ-loop : tie.MeasureT-loop
 loop-again : tie.Need-loop-again Inv-loop μ-loop
 loop-again c =
     let t = c .before .before in
-    let drp = t .before .args .drp .now in
-    let r : SFits w16 (getD drp (t .loop .k) (pos 0)) = search needs in (
+    let drp = t .before .args .drp .now in (
       search needs,
       simp length-set (t .loop .inv .1),
-      fill-next drp _ (t .loop .k) (t .loop .inv .2) (pos 0) (omega arith) (omega arith) (back r),
+      fill-next drp _ (t .loop .k) (t .loop .inv .2) (pos 0) (omega arith) (omega arith) (back (sfits-of (c .kept .given))),
     )
 
 returns : tie.Need-returns Inv-loop μ-loop

@@ -1,13 +1,10 @@
 use mathlib.Core.Path.{_≡_, refl, _∙_}
-use mathlib.Core.List.{List, _++_}
 use Prim.Native.Nat.{_-_, _≤_}
 use native.Mathlib.Omega.{arith}
-use borrow.Author.Needs.{needs}
-use lib.IntN.{ℤ, pos}
-use lib.ListN.{length, getD, length-set, replicate}
+use borrow.Author.Needs.{needs, sfits-of}
+use lib.IntN.{pos}
+use lib.ListN.{length, length-set, replicate}
 use lib.Seq.{take-all}
-use mir.Syntax.{w16}
-use mir.Val.{SFits}
 use Rattle.integers.specs.Ranges.{back}
 use Rattle.lists.specs.Fill.{filled, fill-next}
 use Rattle.decoder.proofs.remembered.Statement.{statement}
@@ -23,11 +20,10 @@ loop-again : tie.Need-loop-again Inv-loop μ-loop
 loop-again c =
     let t = c .before .before in
     let drp = t .before .args .t1 in
-    let n : length drp ≡ 120 = search needs in
-    let r : SFits w16 (getD drp (t .loop .k) (pos 0)) = search needs in (
+    let n : length drp ≡ 120 = search needs in (
       search needs,
       simp length-set (t .loop .inv .1),
-      fill-next drp (replicate 280 (pos 0)) (t .loop .k) (t .loop .inv .2) (pos 0) (omega arith) (omega arith) (back r),
+      fill-next drp (replicate 280 (pos 0)) (t .loop .k) (t .loop .inv .2) (pos 0) (omega arith) (omega arith) (back (sfits-of (c .all .given))),
     )
 
 returns : tie.Need-returns Inv-loop μ-loop

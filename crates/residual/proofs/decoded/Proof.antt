@@ -1,9 +1,10 @@
 use mathlib.Core.Path.{_≡_, refl, _∙_}
 use mathlib.Core.List.{List, [], _∷_}
-use Prim.Native.Nat.{ℕ, _≤_}
+use Prim.Native.Nat.{ℕ, _+_, _≤_}
+use native.Mathlib.Omega.{arith}
 use borrow.Author.Needs.{needs}
 use lib.IntN.{ℤ}
-use lib.ListN.{length, take, drop}
+use lib.ListN.{length, take, drop, length-take, length-drop}
 use Rattle.integers.specs.Ranges.{back, res}
 use Rattle.lists.specs.Parts.{put}
 use Rattle.standard.specs.Frame.{Subframe, places}
@@ -20,6 +21,10 @@ at s p = sub-frame (take 17 (drop p (s .args .c .now)))
 abbrev Stands : tie.Start → List Subframe → List ℤ → ℤ → Type 0
 Stands s = After (s .args .drp .now) (s .args .nrp)
 
+-- which are seventeen
+seventeen : (s : tie.Start) (p : ℕ) → p + 17 ≤ 76 → length (take 17 (drop p (s .args .c .now))) ≡ 17
+seventeen s p h = simp (length-take, length-drop) (omega (arith, s .pre .0))
+
 room : (s : tie.Start) → 120 ≤ length (s .args .drp .now)
 room s = search needs
 
@@ -30,7 +35,7 @@ first c =
     let s = c .before .before .before in
     let n = back (s .fits .nrp) in
     after-next (s .args .drp .now) (s .args .nrp) (room s) (s .pre .1 .1) (after-none (s .args .drp .now) (s .args .nrp))
-    (at s 8) _ _ _ (sub-frame-full _ (search needs)) refl (rw n at (c .sub-decoded .ensures .0)) (rw n at (c .sub-decoded .ensures .1))
+    (at s 8) _ _ _ (sub-frame-full _ (seventeen s 8 (omega arith))) refl (rw n at (c .sub-decoded .ensures .0)) (rw n at (c .sub-decoded .ensures .1))
 
 requires-2 : tie.Need-sub-decoded-requires-2
 requires-2 c κs =
@@ -46,7 +51,7 @@ second c =
     let s = t .before .before .before in
     let n = res (t .sub-decoded) in
     after-next (s .args .drp .now) (s .args .nrp) (room s) (s .pre .1 .1) (first t)
-    (at s 25) _ _ _ (sub-frame-full _ (search needs)) refl (rw n at (c .sub-decoded2 .ensures .0)) (rw n at (c .sub-decoded2 .ensures .1))
+    (at s 25) _ _ _ (sub-frame-full _ (seventeen s 25 (omega arith))) refl (rw n at (c .sub-decoded2 .ensures .0)) (rw n at (c .sub-decoded2 .ensures .1))
 
 requires-3 : tie.Need-sub-decoded-requires-3
 requires-3 c κs =
@@ -65,7 +70,7 @@ third c =
     let s = t .before .before .before in
     let n = res (u .sub-decoded2) in
     after-next (s .args .drp .now) (s .args .nrp) (room s) (s .pre .1 .1) (second u)
-    (at s 42) _ _ _ (sub-frame-full _ (search needs)) refl (rw n at (c .sub-decoded3 .ensures .0)) (rw n at (c .sub-decoded3 .ensures .1))
+    (at s 42) _ _ _ (sub-frame-full _ (seventeen s 42 (omega arith))) refl (rw n at (c .sub-decoded3 .ensures .0)) (rw n at (c .sub-decoded3 .ensures .1))
 
 requires-4 : tie.Need-sub-decoded-requires-4
 requires-4 c κs =
@@ -80,7 +85,7 @@ returns c =
     let s = w .before .before .before .before .before .before .before .before .before .before .before in
     let n = res (w .sub-decoded3) in
     let drp = s .args .drp .now in
-    let all = after-next drp (s .args .nrp) (room s) (s .pre .1 .1) (third w) (at s 59) _ _ _ (sub-frame-full _ (search needs)) refl
+    let all = after-next drp (s .args .nrp) (room s) (s .pre .1 .1) (third w) (at s 59) _ _ _ (sub-frame-full _ (seventeen s 59 (omega arith))) refl
     (rw n at (c .before .sub-decoded4 .ensures .0)) (rw n at (c .before .sub-decoded4 .ensures .1)) in
     (res (c .before .sub-decoded4) ∙ all .lag, after-all drp (s .args .nrp) (room s) (s .pre .1 .1) all (s .pre .1 .0))
 

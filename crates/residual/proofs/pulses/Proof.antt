@@ -1,7 +1,7 @@
 use mathlib.Core.Path.{_≡_, refl, sym, _∙_}
 use Prim.Native.Nat.{_+_, _-_, _≤_}
 use native.Mathlib.Omega.{arith}
-use borrow.Author.Needs.{needs}
+use borrow.Author.Needs.{needs, sfits-of}
 use lib.IntN.{pos}
 use lib.ListN.{length, getD, drop, length-set, length-drop, replicate}
 use lib.Seq.{getD-drop}
@@ -23,12 +23,11 @@ loop-again c =
     let t = c .before .before in
     let xs = t .before .args .t1 in
     let i = t .loop .i in
-    let n : length xs ≡ 17 = search needs in
-    let r : SFits w16 (getD xs (4 + i) (pos 0)) = search needs in (
+    let n : length xs ≡ 17 = search needs in (
       search needs,
       simp length-set (t .loop .inv .1),
       fill-next (drop 4 xs) (replicate 13 (pos 0)) i (t .loop .inv .2) (pos 0) (rw length-drop (omega arith)) (omega arith)
-          (back r ∙ sym (getD-drop 4 xs i (pos 0))),
+          (back (sfits-of (c .xmc .given)) ∙ sym (getD-drop 4 xs i (pos 0))),
     )
 
 returns : tie.Need-returns Inv-loop μ-loop

@@ -14,13 +14,13 @@ use Rattle.speech.proofs.frame.Statement.{statement}
 use Rattle.speech.proofs.frame.Tie as tie
 
 requires : tie.Need-stretch-requires
-requires c κs = let k = c .before .before in (search needs, rw (k .coefficients .ensures) (rps-above 0 _ _))
+requires c κs = let k = c .before .before in (search needs, rw (k .coefficients .ensures) (rps-above _ _ _))
 
 requires-2 : tie.Need-stretch-requires-2
-requires-2 c κs = let k = c .before .before in (search needs, rw (k .coefficients2 .ensures) (rps-above 1 _ _))
+requires-2 c κs = let k = c .before .before in (search needs, rw (k .coefficients2 .ensures) (rps-above _ _ _))
 
 requires-3 : tie.Need-stretch-requires-3
-requires-3 c κs = let k = c .before .before in (search needs, rw (k .coefficients3 .ensures) (rps-above 2 _ _))
+requires-3 c κs = let k = c .before .before in (search needs, rw (k .coefficients3 .ensures) (rps-above _ _ _))
 
 end-7 : tie.Need-part-stretch-end-7
 end-7 c =
@@ -73,7 +73,7 @@ requires-4 c κs =
     let s = k .before .before .before .before .before .before .before .before .before .before .before .before .before .before .before .before in
     let g : length (s .args .wt .now) ≡ 160 = s .pre .0 in
     let h : length (s .args .srop .now) ≡ 160 = s .pre .1 in
-    (search needs, rw (k .coefficients4 .ensures) (rps-above 3 _ _))
+    (search needs, rw (k .coefficients4 .ensures) (rps-above _ _ _))
 
 -- a stretch's answer, with its coefficients named
 first : (c : tie.After-stretch) → let s = c .before .before .before .before in
