@@ -9,7 +9,7 @@ use Rattle.standard.specs.Decoder as standard
 use Rattle.standard.specs.Frame.{received}
 use Rattle.standard.specs.House.{decode-refusal}
 use Rattle.standard.specs.Answers as answers
-use Rattle.refusals.specs.Calls.{decode-refused}
+use Rattle.refusals.specs.Calls.{decode-done, decode-refused}
 
 -- what the state stands for
 unfoldable pub memory : Decoder → standard.Decoder
@@ -28,7 +28,7 @@ pub record Decodes (d : Decoder) (codewords lent : List ℤ) (a : Decoded) (left
 abbrev decoder-of : standard.Decoder → Decoder
 decoder-of m = record { drp = m .drp; nrp = m .nrp; larpp = m .LARpp; v = m .v; msr = m .msr }
 
-same-state : (d e : Decoder) → memory d ≡ memory e → d ≡ e
+pub same-state : (d e : Decoder) → memory d ≡ memory e → d ≡ e
 unfolding memory
 same-state d e p = ap decoder-of p
 
@@ -71,5 +71,6 @@ module _ (d : Decoder) (codewords lent : List ℤ) (n : ℕ) (h : decode-refusal
 pub done-keeps : (d : Decoder) (codewords lent : List ℤ) (s : Decoder) (left : List ℤ) → decode-refusal (memory d) codewords lent ≡ 0
     → memory s ≡ standard.decoded (memory d) (received codewords) .0 → left ≡ standard.decoded (memory d) (received codewords) .1
     → Decodes d codewords lent (decoded 0 s) left
-unfolding answers.decode answers.answer
-done-keeps d codewords lent s left h p q = record { number = rw h; state = rw h p; samples = rw h q }
+done-keeps d codewords lent s left h p q =
+    let r = decode-done (memory d) codewords lent h in
+    record { number = rw r; state = rw r p; samples = rw r q }

@@ -1,16 +1,16 @@
 -- 01, 'Refusal numbers': of what they do not refuse, pack and unpack each undo the other, in the definitions and in any outcome that the promises allow.
-use mathlib.Core.Path.{_≡_, refl, sym, ap, _∙_}
+use mathlib.Core.Path.{_≡_, sym, ap, _∙_}
 use mathlib.Core.Bool.{true}
 use mathlib.Core.List.{List}
-use Prim.Native.Nat.{ℕ, zero, suc}
+use Prim.Native.Nat.{ℕ}
 use lib.Dec.{ltb}
 use lib.IntN.{ℤ}
 use lib.ListN.{length}
 use Rattle.lists.specs.Every.{every}
 use Rattle.standard.specs.Packed.{packed, unpacked}
 use Rattle.standard.specs.House.{pack-refusal, unpack-refusal}
-use Rattle.standard.specs.Answers.{answer, Packed, pack, Unpacked, unpack}
-use Rattle.refusals.specs.Calls.{pack-allows, pack-allowed, pack-done, unpack-allows, unpack-allowed, unpack-done}
+use Rattle.standard.specs.Answers.{pack, unpack}
+use Rattle.refusals.specs.Calls.{pack-allows, pack-allowed, pack-number, pack-done, unpack-allows, unpack-allowed, unpack-number, unpack-done}
 use Rattle.packing.specs.RoundTrip.{packed-length, packed-spare, unpack-packed, unpacked-length, unpacked-fits, pack-unpacked}
 use Rattle.packing.specs.Promise.{Packs, Unpacks}
 
@@ -32,22 +32,13 @@ pack-unpack b b′ w e f g =
 
 -- ---- over the promises
 
--- the number that an answer gives is the one that it was made from
-answer-number : {A : Type 0} (number : A → ℕ) (n : ℕ) {done : A} {refused : ℕ → A}
-    → number done ≡ 0 → ((k : ℕ) → number (refused k) ≡ k) → number (answer n done refused) ≡ n
-unfolding answer
-answer-number number zero d r = d
-answer-number number (suc n) d r = r (suc n)
-
 -- a pack that answers 0 refused nothing
 packs-allowed : (c : List ℤ) (b : List ℕ) {left : List ℕ} → Packs c b 0 left → pack-refusal c b ≡ 0
-unfolding pack
-packs-allowed c b p = sym (answer-number (λ (r : Packed). r .number) (pack-refusal c b) refl (λ k. refl)) ∙ sym (p .number)
+packs-allowed c b p = sym (pack-number c b) ∙ sym (p .number)
 
 -- nor did an unpack
 unpacks-allowed : (b : List ℕ) (w : List ℤ) {left : List ℤ} → Unpacks b w 0 left → unpack-refusal b w ≡ 0
-unfolding unpack
-unpacks-allowed b w p = sym (answer-number (λ (r : Unpacked). r .number) (unpack-refusal b w) refl (λ k. refl)) ∙ sym (p .number)
+unpacks-allowed b w p = sym (unpack-number b w) ∙ sym (p .number)
 
 -- what pack left, with the answer 0, any unpack into 76 codewords gives back
 pub unpack-undoes : (c w : List ℤ) (b left : List ℕ) → Packs c b 0 left → length w ≡ 76

@@ -1,5 +1,5 @@
 -- 01, 'Refusal numbers', of the four calls: 0 exactly when nothing is wrong; and what a refusal hands back.
-use mathlib.Core.Path.{_≡_}
+use mathlib.Core.Path.{_≡_, refl}
 use mathlib.Core.Bool.{true, false}
 use mathlib.Core.Option.{none}
 use mathlib.Core.List.{List}
@@ -9,11 +9,12 @@ use lib.IntN.{ℤ}
 use lib.ListN.{length, replicate}
 use Rattle.lists.specs.Every.{every}
 use Rattle.standard.specs.Coder.{Coder}
-use Rattle.standard.specs.Decoder.{Decoder}
+use Rattle.standard.specs.Frame.{received}
+use Rattle.standard.specs.Decoder.{Decoder, decoded}
 use Rattle.standard.specs.Packed.{packed, unpacked, spare}
 use Rattle.standard.specs.House.{sound-coder, sound-decoder, fits, encode-refusal, decode-refusal, pack-refusal, unpack-refusal}
-use Rattle.standard.specs.Answers.{answer, encode, decode, pack, unpack}
-use Rattle.refusals.specs.Rows.{three-first, three-second, three-third, three-none, three-right}
+use Rattle.standard.specs.Answers.{answer, Encoded, encode, Decoded, decode, Packed, pack, Unpacked, unpack}
+use Rattle.refusals.specs.Rows.{three-first, three-second, three-third, three-none, three-right, answer-number}
 
 module _ (c : Coder) (s w : List ℤ) where
   -- encode refuses nothing else than wrong lengths and an unsound state
@@ -38,6 +39,11 @@ module _ (c : Coder) (s w : List ℤ) where
   pub encode-allowed : encode-refusal c s w ≡ 0 → (length s ≡ 160) × (length w ≡ 76) × (sound-coder c ≡ true)
   unfolding encode-refusal
   encode-allowed = three-right 160 76 0 1 2 s w (sound-coder c)
+
+  -- the number answered is this one
+  pub encode-number : encode c s w .number ≡ encode-refusal c s w
+  unfolding encode
+  encode-number = answer-number (λ (r : Encoded). r .number) (encode-refusal c s w) refl (λ k. refl)
 
   -- refused: the state as handed in, no ending, no marks, the codewords that were there
   pub encode-refused : (n : ℕ) → encode-refusal c s w ≡ suc n
@@ -69,6 +75,16 @@ module _ (m : Decoder) (w s : List ℤ) where
   unfolding decode-refusal
   decode-allowed = three-right 160 76 0 1 2 s w (sound-decoder m)
 
+  -- the number answered is this one
+  pub decode-number : decode m w s .number ≡ decode-refusal m w s
+  unfolding decode
+  decode-number = answer-number (λ (r : Decoded). r .number) (decode-refusal m w s) refl (λ k. refl)
+
+  -- what is not refused is decoded
+  pub decode-done : decode-refusal m w s ≡ 0 → let t = decoded m (received w) in decode m w s ≡ record { number = 0; state = t .0; samples = t .1 }
+  unfolding decode answer
+  decode-done e = rw e
+
   -- refused: the state as handed in, the samples that were there
   pub decode-refused : (n : ℕ) → decode-refusal m w s ≡ suc n → decode m w s ≡ record { number = suc n; state = m; samples = s }
   unfolding decode answer
@@ -98,7 +114,12 @@ module _ (c : List ℤ) (b : List ℕ) where
   unfolding pack-refusal
   pack-allowed = three-right 76 33 1 3 4 c b (fits c)
 
-  -- and is packed
+  -- the number answered is this one
+  pub pack-number : pack c b .number ≡ pack-refusal c b
+  unfolding pack
+  pack-number = answer-number (λ (r : Packed). r .number) (pack-refusal c b) refl (λ k. refl)
+
+  -- what is not refused is packed
   pub pack-done : pack-refusal c b ≡ 0 → pack c b ≡ record { number = 0; bytes = packed c }
   unfolding pack answer
   pack-done e = rw e
@@ -132,7 +153,12 @@ module _ (b : List ℕ) (w : List ℤ) where
   unfolding unpack-refusal
   unpack-allowed = three-right 76 33 1 3 5 w b (every (eqb 0) (spare b))
 
-  -- and is unpacked
+  -- the number answered is this one
+  pub unpack-number : unpack b w .number ≡ unpack-refusal b w
+  unfolding unpack
+  unpack-number = answer-number (λ (r : Unpacked). r .number) (unpack-refusal b w) refl (λ k. refl)
+
+  -- what is not refused is unpacked
   pub unpack-done : unpack-refusal b w ≡ 0 → unpack b w ≡ record { number = 0; codewords = unpacked b }
   unfolding unpack answer
   unpack-done e = rw e

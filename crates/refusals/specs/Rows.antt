@@ -32,6 +32,13 @@ unfolding answer
 by-answer Q zero d r = d refl
 by-answer Q (suc n) d r = r (suc n)
 
+-- the number that an answer gives is the one that it was made from
+pub answer-number : {A : Type 0} (number : A → ℕ) (n : ℕ) {done : A} {refused : ℕ → A}
+    → number done ≡ 0 → ((k : ℕ) → number (refused k) ≡ k) → number (answer n done refused) ≡ n
+unfolding answer
+answer-number number zero d r = d
+answer-number number (suc n) d r = r (suc n)
+
 -- ---- the number that three such rows give
 
 module _ {A B : Type 0} (l m i j k : ℕ) (xs : List A) (ys : List B) (good : Bool) where

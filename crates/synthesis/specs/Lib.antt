@@ -1,2 +1,3 @@
 pub mod Speech
 pub mod Lattice
+pub mod Promise
