@@ -7,7 +7,7 @@ use lib.IntN.{ℤ}
 use lib.ListN.{length, take, drop, length-append, drop-of-length-le}
 use lib.Seq.{take-take, take-at}
 use Rattle.standard.specs.Frame.{received}
-use Rattle.standard.specs.ShortTerm.{ratios, coefficients}
+use Rattle.standard.specs.ShortTerm.{ratios}
 use Rattle.standard.specs.Decoder as standard
 use Rattle.synthesis.specs.Speech.{spoken-is}
 use Rattle.speech.specs.Four.{frame-spoken}

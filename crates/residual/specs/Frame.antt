@@ -1,19 +1,14 @@
 -- 4.3.2: what a frame leaves after the history that it started from: 160 samples of residual, and the history of the next frame.
 use mathlib.Core.Path.{_≡_, refl, sym, _∙_}
 use mathlib.Core.Bool.{true}
-use mathlib.Core.List.{List, _++_, map, flatten}
-use Prim.Native.Nat.{ℕ, _+_}
+use mathlib.Core.List.{List, _++_, flatten}
+use Prim.Native.Nat.{_+_}
 use native.Mathlib.Nat.{le-of-eq}
 use native.Mathlib.Omega.{arith}
-use lib.Dec.{leb}
 use lib.IntN.{ℤ}
-use lib.ListN.{length, take, drop, length-take, length-drop, length-append, length-map}
+use lib.ListN.{length, take, drop, length-drop, length-append}
 use lib.Seq.{take-all, drop-at}
-use borrow.Author.Tests.{leb-true}
-use Rattle.lists.specs.Every.{every, every-map, every-so}
-use Rattle.standard.specs.Frame.{places, received}
 use Rattle.standard.specs.LongTerm.{is-lag}
-use Rattle.lengths.specs.Subframes.{full}
 use Rattle.lengths.specs.Decoding.{Start, sub-decodes-samples}
 use Rattle.lengths.specs.Frames.{FrameSizes, received-sizes}
 use Rattle.residual.specs.Received.{ratio-words, sub-frames, received-is, residual}

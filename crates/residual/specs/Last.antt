@@ -1,6 +1,6 @@
 -- 4.3.2: the history after any number of sub-frames is the last 120 of what stood there and what they have added.
-use Prim.Native.Nat.{ℕ, suc, _+_, _*_}
-use mathlib.Core.Path.{_≡_, refl, sym, _∙_}
+use Prim.Native.Nat.{_+_, _*_}
+use mathlib.Core.Path.{_≡_, refl, _∙_}
 use mathlib.Core.Bool.{true}
 use mathlib.Core.List.{List, [], _∷_, _++_, append-nil, append-assoc, flatten}
 use native.Mathlib.Omega.{arith}
@@ -11,7 +11,6 @@ use Rattle.lists.specs.Scan.{run}
 use Rattle.lists.specs.Every.{every, every-cons}
 use Rattle.lists.specs.Lengths.{sized-length}
 use Rattle.standard.specs.Frame.{Subframe}
-use Rattle.standard.specs.Rpe.{updated}
 use Rattle.standard.specs.Decoder.{sub-decoded}
 use Rattle.lengths.specs.Subframes.{full}
 use Rattle.lengths.specs.Decoding.{Start, sub-decoded-length, sub-decoded-start}

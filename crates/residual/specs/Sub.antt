@@ -1,6 +1,6 @@
 -- 4.3.1, 4.3.2: the fields of a received sub-frame, and what its steps come to one after the other.
-use Prim.Native.Nat.{ℕ, _<_, _≤_}
-use mathlib.Core.Path.{_≡_, refl, sym, _∙_}
+use Prim.Native.Nat.{ℕ, _<_}
+use mathlib.Core.Path.{_≡_, refl, _∙_}
 use mathlib.Core.Bool.{true}
 use mathlib.Core.List.{List, _++_, append-nil, zipWith}
 use native.Mathlib.Omega.{arith}

@@ -1,6 +1,6 @@
 -- The history and what is added to it in one list: the last n of what is there are lent with room for k more.
 use Prim.Native.Nat.{ℕ, _+_, _≤_}
-use mathlib.Core.Path.{_≡_, sym, _∙_}
+use mathlib.Core.Path.{_≡_, _∙_}
 use mathlib.Core.List.{List, _++_, append-assoc}
 use native.Mathlib.Omega.{arith}
 use lib.IntN.{ℤ}

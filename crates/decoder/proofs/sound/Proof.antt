@@ -1,4 +1,3 @@
-use mathlib.Core.Path.{_≡_, refl}
 use borrow.Author.Needs.{needs}
 use mir.Syntax.{w16}
 use mir.Val.{SFits}

@@ -1,8 +1,7 @@
 use mathlib.Core.Path.{_≡_, sym, _∙_}
 use lib.IntN.{ℤ, _+ℤ_, _*ℤ_}
 use mir.Syntax.{w16, w32}
-use mir.Val.{SFits}
-use Rattle.integers.specs.Halves.{zar, know, mem}
+use Rattle.integers.specs.Halves.{zar, mem}
 use Rattle.integers.specs.Sums.{add-is}
 use Rattle.integers.specs.Ranges.{zfits, back, product-in}
 use Rattle.arithmetic.specs.Clip.{clip-is, clip-plain}

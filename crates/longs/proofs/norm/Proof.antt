@@ -1,4 +1,4 @@
-use Prim.Native.Nat.{suc, _≤_}
+use Prim.Native.Nat.{suc}
 use mathlib.Core.Path.{_≡_, sym, ap, _∙_}
 use native.Mathlib.Omega.{arith}
 use lib.IntN.{pos, natAbs}

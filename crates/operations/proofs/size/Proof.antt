@@ -1,4 +1,4 @@
-use lib.IntN.{pos, _+ℤ_, _-ℤ_}
+use lib.IntN.{pos, _+ℤ_}
 use mir.Syntax.{w32}
 use borrow.Author.Needs.{needs}
 use Rattle.integers.specs.Halves.{zar, apart, know, mem}

@@ -1,12 +1,10 @@
 use mathlib.Core.Path.{_≡_, refl, sym, _∙_}
-use Prim.Native.Nat.{_+_, _-_, _≤_}
+use Prim.Native.Nat.{_-_, _≤_}
 use native.Mathlib.Omega.{arith}
 use borrow.Author.Needs.{needs, sfits-of}
 use lib.IntN.{pos}
-use lib.ListN.{length, getD, drop, length-set, length-drop, replicate}
+use lib.ListN.{length, drop, length-set, length-drop, replicate}
 use lib.Seq.{getD-drop}
-use mir.Syntax.{w16}
-use mir.Val.{SFits}
 use Rattle.integers.specs.Ranges.{back}
 use Rattle.lists.specs.Fill.{filled, fill-next, fill-end}
 use Rattle.residual.proofs.pulses.Statement.{statement}
