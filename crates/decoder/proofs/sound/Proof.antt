@@ -1,4 +1,8 @@
+use mathlib.Core.Path.{_≡_}
+use mathlib.Core.Bool.{true, false}
 use borrow.Author.Needs.{needs}
+use lib.IntN.{pos}
+use lib.Signed.{leZ}
 use mir.Syntax.{w16}
 use mir.Val.{SFits}
 use Rattle.integers.specs.Ranges.{back}
@@ -10,17 +14,20 @@ use Rattle.decoder.proofs.sound.Tie as tie
 returns : tie.Need-returns
 unfolding memory sound-decoder
 returns c =
-    let f : SFits w16 (c .before .before .before .before .before .args .m .nrp) = search needs in
+    let nrp = c .before .before .before .before .before .args .m .nrp in
+    let f : SFits w16 nrp = search needs in
     let n = back f in
-    rw (rw n at (c .before .before .if1 .taken), n)
+    let low : leZ (pos 40) nrp ≡ true = rw n at (c .before .before .if1 .taken) in
+    rw (low, n)
 
 returns-2 : tie.Need-returns-2
 unfolding memory sound-decoder
 returns-2 c =
-    let f : SFits w16 (c .before .before .before .args .m .nrp) = search needs in
+    let nrp = c .before .before .before .args .m .nrp in
+    let f : SFits w16 nrp = search needs in
     let n = back f in
-    let e = rw n at (c .if1 .left) in
-    rw (n, e)
+    let low : leZ (pos 40) nrp ≡ false = rw n at (c .if1 .left) in
+    rw (n, low)
 
 pub sound-spec : {M : Type 1} → statement M
 sound-spec = tie.close (tie.spec returns returns-2)

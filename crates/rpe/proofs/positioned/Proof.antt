@@ -1,11 +1,9 @@
 use Prim.Native.Nat.{_-_, _≤_}
 use mathlib.Core.Path.{_≡_, refl, sym, ap, _∙_}
 use native.Mathlib.Omega.{arith}
-use borrow.Author.Needs.{needs}
+use borrow.Author.Needs.{needs, sfits-of}
 use lib.IntN.{pos}
-use lib.ListN.{getD, replicate}
-use mir.Syntax.{w16}
-use mir.Val.{SFits}
+use lib.ListN.{replicate}
 use Rattle.integers.specs.Ranges.{back}
 use Rattle.lists.specs.Steps.{steps, steps-next, steps-end}
 use Rattle.loops.specs.Positions.{ep-zero, ep-turn, ep-loops}
@@ -28,8 +26,7 @@ unfolding ep-turn
 loop-again c =
     let b = c .before .before in
     let s = b .before in
-    let f : SFits w16 (getD (s .args .t2) (b .loop .i) (pos 0)) = search needs in
-    (search needs, rw (back f) (sym (steps-next (ep-turn (s .args .mc) (s .args .t2)) 13 (b .loop .i) (b .loop .ep) (omega arith)) ∙ b .loop .inv .1))
+    (search needs, rw (back (sfits-of (c .ep .given))) (sym (steps-next (ep-turn (s .args .mc) (s .args .t2)) 13 (b .loop .i) (b .loop .ep) (omega arith)) ∙ b .loop .inv .1))
 
 returns : tie.Need-returns Inv-loop μ-loop
 returns c =
