@@ -1,14 +1,14 @@
 -- mult, mult_r and L_mult: their ranges, and that no clip is met but by the two least words.
 use Prim.Native.Nat.{ℕ, _+_, _*_, _<_, _≤_}
 use mathlib.Core.Logic.{⊎-elim}
-use mathlib.Core.Path.{_≡_}
+use mathlib.Core.Path.{_≡_, ap}
 use native.Mathlib.Omega.{arith}
-use lib.IntN.{ℤ, pos, _+ℤ_, _*ℤ_}
+use lib.IntN.{ℤ, pos, _+ℤ_, _*ℤ_, *ℤ-comm}
 use mir.Syntax.{w16, w32}
 use mir.Val.{SFits}
 use Rattle.integers.specs.Halves.{P, N, apart, le-or-lt, zar, know}
 use Rattle.integers.specs.Sums.{add-is, mul-in, shr-is}
-use Rattle.standard.specs.Arithmetic.{_>>_, mult, mult-r, L-mult}
+use Rattle.standard.specs.Arithmetic.{_>>_, clip, mult, mult-r, L-mult}
 use Rattle.arithmetic.specs.Clip.{clip-is, clip-fits, clip-plain}
 
 module _ (a b : ℤ) where
@@ -23,6 +23,11 @@ module _ (a b : ℤ) where
   pub L-mult-fits : SFits w32 (L-mult a b)
   unfolding L-mult
   L-mult-fits = clip-fits w32 (a *ℤ b +ℤ a *ℤ b)
+
+  -- mult_r gives the same either way round
+  pub mult-r-turned : mult-r a b ≡ mult-r b a
+  unfolding mult-r
+  mult-r-turned = ap (λ (z : ℤ). clip w16 ((z +ℤ pos 16384) >> 15)) (*ℤ-comm a b)
 
   -- a product within B · 32768 comes out within B
   module _ (B : ℕ) (h : P (a *ℤ b) + N (a *ℤ b) ≤ B * 32768) where

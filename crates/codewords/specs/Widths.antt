@@ -1,4 +1,4 @@
--- The widths of the fields: what the code's tests come to, and that none is above 15.
+-- The widths of the fields: what the code's tests come to, and that none is above 7.
 use Prim.Native.Nat.{ℕ, _-_, _%_, _<_, _≤_}
 use mathlib.Core.Path.{_≡_, refl}
 use mathlib.Core.Bool.{true}
@@ -22,18 +22,18 @@ below t b e i =
     ⊎-elim (λ h. rw (← past-end {d = 0} t {i = i} h) (omega arith)) (λ h. leb-true (getD t i 0) b (every-at (λ n. leb n b) t i 0 e h))
     (le-or-lt (length t) i)
 
--- no field has more than 15 bits
-pub LARc-most : (i : ℕ) → getD LARc-bits i 0 ≤ 15
+-- no field has more than 7 bits
+pub LARc-most : (i : ℕ) → getD LARc-bits i 0 ≤ 7
 unfolding LARc-bits every
-LARc-most = below LARc-bits 15 refl
+LARc-most = below LARc-bits 7 refl
 
-pub sub-most : (i : ℕ) → getD sub-widths i 0 ≤ 15
+pub sub-most : (i : ℕ) → getD sub-widths i 0 ≤ 7
 unfolding sub-widths every
-sub-most = below sub-widths 15 refl
+sub-most = below sub-widths 7 refl
 
-pub most : (i : ℕ) → getD widths i 0 ≤ 15
+pub width-most : (i : ℕ) → getD widths i 0 ≤ 7
 unfolding widths LARc-bits sub-widths every flatten
-most = below widths 15 refl
+width-most = below widths 7 refl
 
 -- the gain and the grid have 2 bits each
 pub gain-width : (i : ℕ) → 1 ≤ i → i < 3 → 2 ≡ getD sub-widths i 0

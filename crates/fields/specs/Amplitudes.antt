@@ -130,7 +130,7 @@ xmaxc-fits xmax h =
 -- ---- the xmax of a code
 
 -- the exp of a code
-abbrev exp-of : ℕ → ℕ
+abbrev pub exp-of : ℕ → ℕ
 exp-of c = cond (leb c 15) 0 (c / 8 - 1)
 
 -- the greatest xmax that a code can have

@@ -1,14 +1,22 @@
 -- A list cut into parts that follow one another.
 use mathlib.Core.Path.{_≡_, refl}
 use mathlib.Core.List.{List, [], _∷_, _++_, append-nil, append-assoc, flatten, foldr, map}
-use Prim.Native.Nat.{ℕ, _+_, _≤_}
+use Prim.Native.Nat.{ℕ, zero, suc, _+_, _*_, _-_, _≤_}
+use native.Mathlib.Nat.{mul-suc, zero-sub, sub-zero}
 use native.Mathlib.Omega.{arith}
-use lib.ListN.{length, take, drop, take-append-drop, length-append, length-drop}
+use lib.ListN.{length, take, drop, replicate, take-append-drop, length-append, length-drop}
 use lib.Seq.{take-append-seam, drop-append-seam, drop-drop, length-take-le}
 
 -- what the lengths come to; at a literal list it computes
 abbrev pub sum : List ℕ → ℕ
 sum = foldr _+_ 0
+
+-- what is left of n parts of one size
+pub rest-sum : (a n k : ℕ) → sum (drop k (replicate n a)) ≡ a * (n - k)
+rest-sum a zero zero = omega arith
+rest-sum a zero (suc k) = rw (zero-sub (suc k)) (omega arith)
+rest-sum a (suc n) zero = rw (sub-zero (suc n)) (omega (arith, rw (sub-zero n) at (rest-sum a n 0), mul-suc a n))
+rest-sum a (suc n) (suc k) = let e : suc n - suc k ≡ n - k = omega arith in rw (e, rest-sum a n k)
 
 module _ {A : Type 0} where
   -- the parts of xs, of the lengths ns, from the front

@@ -1,25 +1,22 @@
 -- pack's loop over a frame, and unpack's: what a turn may go by, and what the loop comes to.
 use mathlib.Core.Path.{_≡_, refl, sym, _∙_}
 use mathlib.Core.Bool.{true}
-use mathlib.Core.List.{List, [], append-nil, flatten, zipWith}
-use Prim.Native.Nat.{ℕ, zero, suc, _+_, _-_, _*_, _/_, _%_, _^_, _≤_, _<_}
-use native.Mathlib.Nat.{mul-suc, zero-sub, sub-zero}
+use mathlib.Core.List.{List, [], append-nil, zipWith}
+use Prim.Native.Nat.{ℕ, suc, _+_, _-_, _*_, _/_, _%_, _^_, _≤_, _<_}
 use native.Mathlib.Omega.{arith}
-use lib.Dec.{leb}
 use lib.IntN.{ℤ, pos, natAbs}
 use lib.Pow.{pow-mono}
-use lib.ListN.{length, getD, set, drop, replicate, getD-replicate, drop-of-length-le}
+use lib.ListN.{length, getD, set, drop, getD-replicate, drop-of-length-le}
 use lib.Seq.{drop-cons}
-use borrow.Author.Tests.{leb-true}
 use Rattle.integers.specs.Halves.{P, N, abs-is}
-use Rattle.lists.specs.Every.{every, every-at}
+use Rattle.lists.specs.Every.{every-at}
 use Rattle.lists.specs.Tab.{zip-at, zip-length}
-use Rattle.lists.specs.Cut.{sum}
-use Rattle.standard.specs.Tables.{LARc-bits}
-use Rattle.standard.specs.Frame.{sub-widths, widths}
+use Rattle.lists.specs.Cut.{sum, rest-sum}
+use Rattle.standard.specs.Frame.{widths}
 use Rattle.standard.specs.Packed.{bits, frame-bits, packed, unpacked}
 use Rattle.standard.specs.House.{fit, fits}
 use Rattle.fields.specs.Fit.{fit-is}
+use Rattle.codewords.specs.Widths.{width-most}
 use Rattle.packing.specs.Waiting.{coming, Moving, moving-in, moving-out, moving-end, moving-last}
 use Rattle.packing.specs.RoundTrip.{field-count, bit-count, eights, zeros, byte-bits-is}
 
@@ -40,25 +37,9 @@ unpacking-whole : (b : List ℕ) → length b ≡ 33 → coming (λ n. n) pos []
 unfolding unpacked bits
 unpacking-whole b h = rw (append-nil, byte-bits-is b h)
 
--- what is left of n parts of one size
-rest-sum : (a n k : ℕ) → sum (drop k (replicate n a)) ≡ a * (n - k)
-rest-sum a zero zero = omega arith
-rest-sum a zero (suc k) = rw (zero-sub (suc k)) (omega arith)
-rest-sum a (suc n) zero = rw (sub-zero (suc n)) (omega (arith, rw (sub-zero n) at (rest-sum a n 0), mul-suc a n))
-rest-sum a (suc n) (suc k) = let e : suc n - suc k ≡ n - k = omega arith in rw (e, rest-sum a n k)
-
--- each width is at most 7, by computation
-narrow : every (λ w. leb w 7) widths ≡ true
-unfolding every widths sub-widths LARc-bits flatten
-narrow = refl
-
--- no field is wider than 7 bits
-pub width-most : (i : ℕ) → i < 76 → getD widths i 0 ≤ 7
-width-most i h = leb-true (getD widths i 0) 7 (every-at (λ w. leb w 7) widths i 0 narrow (rw field-count h))
-
--- so none holds more than 128 values
-pub limit-most : (i : ℕ) → i < 76 → 2 ^ getD widths i 0 ≤ 128
-limit-most i h = pow-mono (width-most i h)
+-- no field holds more than 128 values
+pub limit-most : (i : ℕ) → 2 ^ getD widths i 0 ≤ 128
+limit-most i = pow-mono (width-most i)
 
 -- a codeword of a frame that fits is not negative, and below its field's limit
 pub word-below : (c : List ℤ) (i : ℕ) → length c ≡ 76 → fits c ≡ true → i < 76

@@ -1,7 +1,7 @@
 -- 4.2.15: how often a mantissa is doubled until it is above 7, and what exponent and mantissa come of a code.
-use Prim.Native.Nat.{ℕ, suc, _*_, _-_, _/_, _^_, _<_, _≤_}
+use Prim.Native.Nat.{ℕ, suc, _*_, _-_, _^_, _<_, _≤_}
 use mathlib.Core.Path.{_≡_, refl, sym}
-use mathlib.Core.Bool.{Bool, true, cond}
+use mathlib.Core.Bool.{Bool, true}
 use mathlib.Core.Logic.{⊎-elim}
 use native.Mathlib.Nat.{mul-le-mul-left}
 use native.Mathlib.Omega.{arith}
@@ -15,6 +15,7 @@ use Rattle.lists.specs.First.{by-cond, first, first-le, first-holds, first-uniq
 use Rattle.standard.specs.Rpe.{mantissa, amplitude}
 use Rattle.standard.specs.House.{fit}
 use Rattle.fields.specs.Fit.{fit-is}
+use Rattle.fields.specs.Amplitudes.{exp-of}
 
 -- n doublings bring m above 7
 abbrev pub doubled : ℕ → ℕ → Bool
@@ -37,10 +38,6 @@ module _ (m : ℕ) where
       (λ (g : 4 ≤ n). let e : n ≡ 4 = omega (arith, first-le (doubled m) 4 0) in rw e (omega arith))
       (λ g. leb-true 9 (suc m * 2 ^ n) (first-holds (doubled m) 4 0 g))
       (le-or-lt 4 n)
-
--- the exponent that a code has before the doublings
-abbrev pub exp-of : ℕ → ℕ
-exp-of c = cond (leb c 15) 0 (c / 8 - 1)
 
 -- what comes of a code, from that exponent and from the doublings of the mantissa that it leaves
 pub amplitude-is : (code : ℤ) (e n : ℕ) → let m = natAbs code - 8 * e in

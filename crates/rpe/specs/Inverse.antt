@@ -3,19 +3,17 @@ use Prim.Native.Nat.{ℕ, _*_, _-_, _/_, _^_, _<_, _≤_}
 use mathlib.Core.Path.{_≡_, refl, ap}
 use mathlib.Core.Bool.{true}
 use mathlib.Core.List.{List, map}
-use mathlib.Core.Logic.{⊎-elim}
 use native.Mathlib.Omega.{arith}
 use native.Mathlib.Nat.{mul-le-mul}
 use lib.Dec.{leb}
 use lib.IntN.{ℤ, pos, _+ℤ_, _-ℤ_, _*ℤ_, natAbs}
-use lib.ListN.{length}
 use lib.Signed.{leZ}
 use mir.Syntax.{w16}
 use mir.Val.{SFits, toZ}
 use borrow.Author.Tests.{leb-true}
-use Rattle.integers.specs.Halves.{P, N, apart, le-or-lt, zar, know, abs-is}
+use Rattle.integers.specs.Halves.{P, N, apart, zar, know, abs-is}
 use Rattle.integers.specs.Sums.{add-is, minus-is, mul-is, shr-is}
-use Rattle.lists.specs.Every.{every, every-at, every-tab}
+use Rattle.lists.specs.Every.{every, every-tab}
 use Rattle.lists.specs.Tab.{tab}
 use Rattle.lists.specs.For.{tab-each}
 use Rattle.standard.specs.Arithmetic.{clip, modulo, keep, minus, _>>_, _<<_, shl, shr, add, sub, mult-r}
@@ -24,7 +22,6 @@ use Rattle.standard.specs.Rpe.{Amplitude, xMp}
 use Rattle.arithmetic.specs.Clip.{minus-clip}
 use Rattle.arithmetic.specs.Shift.{modulo-below, modulo-scaled}
 use Rattle.arithmetic.specs.Product.{mult-r-plain}
-use Rattle.tables.specs.Facts.{past-end}
 
 -- ---- one pulse
 
@@ -67,14 +64,6 @@ module _ (a x : ℤ) (f : SFits w16 a) (g : SFits w16 x) (above : leZ (pos 0) a 
 -- a pulse, from the mantissa, the shift and the rounding term
 abbrev pub pulse : ℤ → ℕ → ℤ → ℤ → ℤ
 pulse temp1 temp2 temp3 xMc = add (mult-r temp1 (sub (xMc << 1) (pos 7) << 12)) temp3 >> temp2
-
--- no mantissa is negative
-mantissas : every (leZ (pos 0)) FAC ≡ true
-unfolding every FAC
-mantissas = refl
-
-pub FAC-above : (i : ℕ) → leZ (pos 0) (FAC at i) ≡ true
-FAC-above i = ⊎-elim (λ h. rw (← past-end {d = pos 0} FAC {i = i} h) refl) (λ h. every-at (leZ (pos 0)) FAC i (pos 0) mantissas h) (le-or-lt (length FAC) i)
 
 -- an exponent from −4 to 6 has a shift from 0 to 10, which meets no clip
 pub shift-in : (e : ℤ) → P e ≤ 6 → N e ≤ 4 → let t = natAbs (pos 6 -ℤ e) in (t ≤ 10) × (sub (pos 6) e ≡ pos t)

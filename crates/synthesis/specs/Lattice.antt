@@ -23,7 +23,7 @@ use Rattle.synthesis.specs.Speech.{speech, not-least, synthesised-words}
 abbrev pub cells : Line → List ℤ
 cells l = l .v0 ∷ l .v1 ∷ l .v2 ∷ l .v3 ∷ l .v4 ∷ l .v5 ∷ l .v6 ∷ l .v7 ∷ []
 
--- a word that is not the least
+-- a word that is not the least: with it, mult_r meets no limit
 abbrev pub factor : ℤ → Bool
 factor = within (neg 32767) (pos 32767)
 
@@ -221,7 +221,7 @@ module _ (r v : Line) (wt : ℤ) (u : Line) (e : cells u ≡ synthesised (cells 
   after-words = each-yes word u (rw e (synthesised-words (r .v0) (v .v0) _ _ wt))
 
   -- the first is sr[k]
-  pub first-is : u .v0 ≡ synthesised (cells v) (cells r, wt) .1
+  first-is : u .v0 ≡ synthesised (cells v) (cells r, wt) .1
   unfolding synthesised
   first-is = ap (λ (t : List ℤ). t at 0) e
 

@@ -46,7 +46,7 @@ spoken-is v msr (x ∷ xs) =
 -- ---- the samples of a stretch
 
 -- each sample goes with the same coefficients
-pub paired : (rrp wt : List ℤ) → zip (replicate (length wt) rrp) wt ≡ map (λ x. (rrp, x)) wt
+paired : (rrp wt : List ℤ) → zip (replicate (length wt) rrp) wt ≡ map (λ x. (rrp, x)) wt
 unfolding zip
 paired rrp wt = zip-replicate (λ r x. (r, x)) rrp (length wt) wt refl
 

@@ -66,7 +66,7 @@ fn term(rrp: i32, v: i32) -> i32
     (rrp * v + 16384) >> 15
 }
 
-// sri after a section, while no limit is met.
+// sri after a section, while no limit is met. Before the last one it is within eight words.
 fn lowered(rrp: i32, v: i32, sri: i32) -> i32
     requires { ⌜ (factor rrp ≡ true) × (word v ≡ true) × (natAbs sri ≤ 262144) ⌝ }
     ensures is { λ r. ⌜ r ≡ sri -ℤ mult-r rrp v ⌝ }

@@ -15,7 +15,7 @@ use Rattle.integers.specs.Halves.{P, N, zar, eq-is, apart, le-or-lt}
 use Rattle.integers.specs.Sums.{minus-is}
 use Rattle.lists.specs.Every.{every, every-at}
 use Rattle.lists.specs.Tab.{tab, tab-at-zero, map-at, zip-at}
-use Rattle.standard.specs.Tables.{_at_, MIC, MAC, H, LARc-bits}
+use Rattle.standard.specs.Tables.{_at_, MIC, MAC, H, FAC, LARc-bits}
 
 -- past its end a table has what is asked for there: 0
 pub past-end : {A : Type 0} {d : A} (t : List A) {i : ℕ} → length t ≤ i → d ≡ getD t i d
@@ -28,6 +28,14 @@ within t b e i =
     (λ h. rw (← past-end {d = pos 0} t {i = i} h) (omega arith))
     (λ h. leb-true (natAbs (t at i)) b (every-at (λ z. leb (natAbs z) b) t i (pos 0) e h))
     (le-or-lt (length t) i)
+
+-- no mantissa is negative
+mantissas : every (leZ (pos 0)) FAC ≡ true
+unfolding every FAC
+mantissas = refl
+
+pub FAC-above : (i : ℕ) → leZ (pos 0) (FAC at i) ≡ true
+FAC-above i = ⊎-elim (λ h. rw (← past-end {d = pos 0} FAC {i = i} h) refl) (λ h. every-at (leZ (pos 0)) FAC i (pos 0) mantissas h) (le-or-lt (length FAC) i)
 
 -- ---- the weighting filter
 

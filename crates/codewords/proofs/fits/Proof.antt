@@ -15,7 +15,7 @@ use Rattle.lists.specs.Tab.{zip-length, zip-at}
 use Rattle.standard.specs.Tables.{LARc-bits}
 use Rattle.standard.specs.Frame.{sub-widths, widths}
 use Rattle.standard.specs.House.{fit, fits}
-use Rattle.codewords.specs.Widths.{most}
+use Rattle.codewords.specs.Widths.{width-most}
 use Rattle.codewords.proofs.fits.Statement.{statement}
 use Rattle.codewords.proofs.fits.Tie as tie
 
@@ -33,7 +33,7 @@ unfolding fits
 loop-holds c = (search needs, refl)
 
 fit-requires : tie.Need-fit-requires Inv-loop μ-loop
-fit-requires c κs = rw (c .before .field-width .ensures) (most (c .before .before .before .loop .i))
+fit-requires c κs = rw (c .before .field-width .ensures) (omega (arith, width-most (c .before .before .before .loop .i)))
 
 -- what is left to test before a turn: its own test, and what is left after it
 turn : (c : tie.After-fit Inv-loop μ-loop)

@@ -26,7 +26,7 @@ loop-holds : tie.Need-loop-holds Inv-loop μ-loop
 loop-holds c = (search needs, refl, refl)
 
 low-bits-requires : tie.Need-low-bits-requires Inv-loop μ-loop
-low-bits-requires c κs = rw (c .larc-width .ensures) (LARc-most (c .before .before .before .loop .i))
+low-bits-requires c κs = rw (c .larc-width .ensures) (omega (arith, LARc-most (c .before .before .before .loop .i)))
 
 loop-again : tie.Need-loop-again Inv-loop μ-loop
 unfolding LARc-bits

@@ -9,9 +9,10 @@ use mir.Val.{SFits}
 use borrow.Author.Needs.{needs}
 use Rattle.integers.specs.Halves.{zar, know}
 use Rattle.integers.specs.Ranges.{back}
+use Rattle.codewords.specs.Widths.{width-most}
 use Rattle.packing.specs.Bits.{more-bits}
 use Rattle.packing.specs.Waiting.{moving-start}
-use Rattle.packing.specs.Turns.{Packing, width-most, limit-most, word-below, pack-room, pack-in, pack-out, pack-end}
+use Rattle.packing.specs.Turns.{Packing, limit-most, word-below, pack-room, pack-in, pack-out, pack-end}
 use Rattle.packing.proofs.fill_bytes.Statement.{statement}
 use Rattle.packing.proofs.fill_bytes.Tie as tie
 
@@ -38,9 +39,9 @@ above-requires c κs =
     let f : SFits w16 (getD (s .args .codewords .now) (l .loop .i) (pos 0)) = search needs in
     let p : l .loop .i < 76 = omega arith in
     let z = word-below (s .args .codewords .now) (l .loop .i) (s .pre .0) (s .pre .2) p in
-    let v = limit-most (l .loop .i) p in
+    let v = limit-most (l .loop .i) in
     let u = more-bits _ 7 _ (l .loop .inv .3 .held) (omega arith) in
-    (omega (zar, know f), omega (arith, c .before .field-width .ensures, width-most (l .loop .i) p), omega (zar, know f))
+    (omega (zar, know f), omega (arith, c .before .field-width .ensures, width-most (l .loop .i)), omega (zar, know f))
 
 -- the codeword is above the bits that wait
 taken : (c : tie.After-above Inv-loop μ-loop)
@@ -55,7 +56,7 @@ taken c =
 
 -- and they are at most 14
 few : (c : tie.After-above Inv-loop μ-loop) → c .before .before .before .before .loop .have + c .before .before .field-width .result ≤ 14
-few c = omega (arith, width-most (c .before .before .before .before .loop .i) (omega arith), c .before .before .field-width .ensures)
+few c = omega (arith, width-most (c .before .before .before .before .loop .i), c .before .before .field-width .ensures)
 
 loop-again : tie.Need-loop-again Inv-loop μ-loop
 loop-again c =

@@ -10,7 +10,8 @@ use Rattle.integers.specs.Halves.{zar}
 use Rattle.integers.specs.Ranges.{back}
 use Rattle.packing.specs.Bits.{more-bits}
 use Rattle.packing.specs.Waiting.{moving-start}
-use Rattle.packing.specs.Turns.{Unpacking, width-most, limit-most, unpack-room, unpack-in, unpack-out, unpack-end}
+use Rattle.codewords.specs.Widths.{width-most}
+use Rattle.packing.specs.Turns.{Unpacking, limit-most, unpack-room, unpack-in, unpack-out, unpack-end}
 use Rattle.packing.proofs.fill_codewords.Statement.{statement}
 use Rattle.packing.proofs.fill_codewords.Tie as tie
 
@@ -50,7 +51,7 @@ record Enough (c : tie.Joined1 Inv-loop μ-loop) : Type 0 where
 enough : (c : tie.Joined1 Inv-loop μ-loop) → Enough c
 enough c =
     let l = c .before .before .before .loop in
-    let m = width-most (l .i) (omega arith) in
+    let m = width-most (l .i) in
     let e = c .before .field-width .ensures in
     ⊎-elim
     (λ w.
@@ -67,7 +68,7 @@ cast-codewords : tie.Need-cast-codewords Inv-loop μ-loop
 cast-codewords c =
     let f = c .before .before .before in
     let p = c .before .power .ensures ∙ ap (λ (n : ℕ). 2 ^ n) (f .field-width .ensures) in
-    omega (zar, mod-lt (c .before .before .if1 .waiting) (limit-above (c .before)), limit-most (f .before .before .loop .i) (omega arith))
+    omega (zar, mod-lt (c .before .before .if1 .waiting) (limit-above (c .before)), limit-most (f .before .before .loop .i))
 
 loop-again : tie.Need-loop-again Inv-loop μ-loop
 loop-again c =
@@ -96,7 +97,7 @@ fill-codewords-spec =
     above-requires
     (λ c. search needs)
     (λ c. omega (arith, left (c .before .before)))
-    (λ c κs. omega (arith, c .before .field-width .ensures, width-most (c .before .before .before .loop .i) (omega arith)))
+    (λ c κs. omega (arith, c .before .field-width .ensures, width-most (c .before .before .before .loop .i)))
     (λ c. limit-above (c .before))
     cast-codewords
     (λ c. search needs)

@@ -14,7 +14,8 @@ use Rattle.integers.specs.Sums.{minus-is}
 use Rattle.integers.specs.Ranges.{back}
 use Rattle.lists.specs.First.{first-le}
 use Rattle.fields.specs.Fit.{fit-is}
-use Rattle.rpe.specs.Doubling.{doubled-above, exp-of, amplitude-is}
+use Rattle.fields.specs.Amplitudes.{exp-of}
+use Rattle.rpe.specs.Doubling.{doubled-above, amplitude-is}
 use Rattle.rpe.proofs.exp_and_mant.Statement.{statement}
 use Rattle.rpe.proofs.exp_and_mant.Tie as tie
 

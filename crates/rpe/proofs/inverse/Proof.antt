@@ -18,8 +18,9 @@ use Rattle.standard.specs.Arithmetic.{sub}
 use Rattle.standard.specs.Tables.{_at_, FAC}
 use Rattle.standard.specs.Rpe.{amplitude}
 use Rattle.arithmetic.specs.Shift.{up-bits}
+use Rattle.tables.specs.Facts.{FAC-above}
 use Rattle.rpe.specs.Doubling.{exp-range}
-use Rattle.rpe.specs.Inverse.{pulse, FAC-above, shift-in, up-half, xMp-is}
+use Rattle.rpe.specs.Inverse.{pulse, shift-in, up-half, xMp-is}
 use Rattle.rpe.proofs.inverse.Statement.{statement}
 use Rattle.rpe.proofs.inverse.Tie as tie
 

@@ -1,22 +1,17 @@
-use mathlib.Core.Path.{_≡_, refl, ap}
-use lib.IntN.{ℤ, pos, _+ℤ_, *ℤ-comm}
+use mathlib.Core.Path.{refl}
+use lib.IntN.{pos}
 use mir.Syntax.{w16}
 use mir.Val.{SFits}
 use borrow.Author.Needs.{needs}
 use Rattle.integers.specs.Ranges.{zfits, back, res}
-use Rattle.standard.specs.Arithmetic.{_>>_, clip, plus, mult-r}
+use Rattle.standard.specs.Arithmetic.{plus}
 use Rattle.standard.specs.Decoder.{de-emphasis}
 use Rattle.arithmetic.specs.Clip.{clip-fits}
-use Rattle.arithmetic.specs.Product.{mult-r-fits}
+use Rattle.arithmetic.specs.Product.{mult-r-fits, mult-r-turned}
 use Rattle.arithmetic.specs.Within.{word-is, word-yes}
 use Rattle.synthesis.specs.Lattice.{widened}
 use Rattle.synthesis.proofs.de_emphasis.Statement.{statement}
 use Rattle.synthesis.proofs.de_emphasis.Tie as tie
-
--- mult_r gives the same either way round
-turned : (a b : ℤ) → mult-r a b ≡ mult-r b a
-unfolding mult-r
-turned a b = ap (λ (z : ℤ). clip w16 ((z +ℤ pos 16384) >> 15)) (*ℤ-comm a b)
 
 cast-term : tie.Need-cast-term
 cast-term c = search zfits
@@ -37,7 +32,7 @@ returns : tie.Need-returns
 unfolding de-emphasis plus
 returns c =
     let s = c .before .before in
-    cc (back (cast-result c), res (c .clipped), back (add-clipped (c .before)), back (s .fits .sr), res (c .before .term), widened (s .args .msr) (s .fits .msr), turned (s .args .msr) (pos 28180))
+    cc (back (cast-result c), res (c .clipped), back (add-clipped (c .before)), back (s .fits .sr), res (c .before .term), widened (s .args .msr) (s .fits .msr), mult-r-turned (s .args .msr) (pos 28180))
 
 pub de-emphasis-spec : {M : Type 1} → statement M
 de-emphasis-spec =
