@@ -83,7 +83,7 @@ fn length_refusal(codewords: usize, bytes: usize) -> u8
     0
 }
 
-// 5: a codeword is wider than its field.
+// The 33 bytes of 76 codewords. Refused: 2 and 4, a length; 5, a codeword that is wider than its field.
 pub fn pack(codewords: &[i16], bytes: &mut [u8]) -> u8
     ensures { λ r. ⌜ Packs (now (codewords .entry)) (now (bytes .entry)) r (now (bytes .exit)) ⌝ }
 {
@@ -98,7 +98,7 @@ pub fn pack(codewords: &[i16], bytes: &mut [u8]) -> u8
     0
 }
 
-// 6: a spare bit is 1; these are the top four of the last byte.
+// The 76 codewords of 33 bytes. Refused: 2 and 4, a length; 6, a spare bit that is 1. The spare bits are the top four of the last byte.
 pub fn unpack(bytes: &[u8], codewords: &mut [i16]) -> u8
     ensures { λ r. ⌜ Unpacks (now (bytes .entry)) (now (codewords .entry)) r (now (codewords .exit)) ⌝ }
 {
