@@ -9,7 +9,7 @@ use Rattle.standard.specs.Decoder.{Decoder}
 use Rattle.standard.specs.House.{encode-refusal, decode-refusal}
 use Rattle.standard.specs.Answers.{Encoded, encode, Decoded, decode}
 use Rattle.refusals.specs.Rows.{by-answer}
-use Rattle.refusals.specs.Calls.{encode-allowed, decode-allowed}
+use Rattle.refusals.specs.Calls.{encode-exactly, decode-exactly}
 use Rattle.lengths.specs.Frames.{CoderSizes, coded-subframes, coded-words-length, coded-sizes}
 use Rattle.lengths.specs.Frames.{DecoderSizes, decoded-sizes, decoded-length, FrameSizes, received-sizes}
 
@@ -19,7 +19,7 @@ module _ (c : Coder) (samples codewords : List ℤ) where
   unfolding encode
   encode-codewords-length =
       by-answer (λ (t : Encoded). length (t .codewords) ≡ length codewords) (encode-refusal c samples codewords)
-      (λ e. coded-words-length c samples ∙ sym (encode-allowed c samples codewords e .1)) (λ k. refl)
+      (λ e. coded-words-length c samples ∙ sym (encode-exactly c samples codewords .allowed e .1)) (λ k. refl)
 
   -- gives four marks
   pub encode-marks-length : length (encode c samples codewords .marks) ≡ 4
@@ -37,18 +37,18 @@ module _ (c : Coder) (samples codewords : List ℤ) where
 module _ (m : Decoder) (codewords samples : List ℤ) where
   -- what decode takes is received as a frame
   frame-sizes : decode-refusal m codewords samples ≡ 0 → FrameSizes (received codewords)
-  frame-sizes e = received-sizes codewords (decode-allowed m codewords samples e .1)
+  frame-sizes e = received-sizes codewords (decode-exactly m codewords samples .allowed e .1)
 
   -- decode leaves as many samples as there were
   pub decode-samples-length : length (m .drp) ≡ 120 → length (decode m codewords samples .samples) ≡ length samples
   unfolding decode
   decode-samples-length h =
       by-answer (λ (t : Decoded). length (t .samples) ≡ length samples) (decode-refusal m codewords samples)
-      (λ e. decoded-length m (received codewords) (decode-allowed m codewords samples e .2) h (frame-sizes e) ∙ sym (decode-allowed m codewords samples e .0)) (λ k. refl)
+      (λ e. decoded-length m (received codewords) (decode-exactly m codewords samples .allowed e .2) h (frame-sizes e) ∙ sym (decode-exactly m codewords samples .allowed e .0)) (λ k. refl)
 
   -- and keeps the decoder's sizes
   pub decode-sizes : DecoderSizes m → DecoderSizes (decode m codewords samples .state)
   unfolding decode
   decode-sizes h =
       by-answer (λ (t : Decoded). DecoderSizes (t .state)) (decode-refusal m codewords samples)
-      (λ e. decoded-sizes m (received codewords) (decode-allowed m codewords samples e .2) h (frame-sizes e)) (λ k. h)
+      (λ e. decoded-sizes m (received codewords) (decode-exactly m codewords samples .allowed e .2) h (frame-sizes e)) (λ k. h)

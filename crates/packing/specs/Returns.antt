@@ -16,7 +16,7 @@ use Rattle.lists.specs.Every.{every, every-only}
 use Rattle.standard.specs.Packed.{bits, value, packed, byte-bits, unpacked, spare}
 use Rattle.standard.specs.House.{refusal, not-of, codewords-row, bytes-row, fields-row, spare-row, fits, pack-refusal, unpack-refusal}
 use Rattle.refusals.specs.Rows.{refusal-none}
-use Rattle.refusals.specs.Calls.{pack-allows, pack-third, pack-done, pack-refused, unpack-allows, unpack-third, unpack-done, unpack-refused}
+use Rattle.refusals.specs.Calls.{pack-exactly, pack-done, pack-refused, unpack-exactly, unpack-done, unpack-refused}
 use Rattle.packing.specs.Bits.{bits-length, value-bits, bits-split, bits-zero}
 use Rattle.packing.specs.Promise.{Packs, Unpacks}
 
@@ -55,11 +55,11 @@ module _ (c : List ℤ) (b : List ℕ) where
 
   -- a codeword does not fit its field
   pub pack-5 : length c ≡ 76 → length b ≡ 33 → fits c ≡ false → Packs c b 5 b
-  pack-5 h g e = refuses 4 (pack-third c b h g e)
+  pack-5 h g e = refuses 4 (pack-exactly c b .third h g e)
 
   -- nothing is refused, and the frame is packed
   pub pack-0 : {left : List ℕ} → length c ≡ 76 → length b ≡ 33 → fits c ≡ true → left ≡ packed c → Packs c b 0 left
-  pack-0 h g e p = let r = pack-done c b (pack-allows c b h g e) in record { number = rw r; bytes = rw r p }
+  pack-0 h g e p = let r = pack-done c b (pack-exactly c b .allows h g e) in record { number = rw r; bytes = rw r p }
 
 -- ---- unpack
 
@@ -76,11 +76,11 @@ module _ (b : List ℕ) (w : List ℤ) where
 
   -- a spare bit is 1
   pub unpack-6 : length w ≡ 76 → length b ≡ 33 → every (eqb 0) (spare b) ≡ false → Unpacks b w 6 w
-  unpack-6 h g e = refuses-too 5 (unpack-third b w h g e)
+  unpack-6 h g e = refuses-too 5 (unpack-exactly b w .third h g e)
 
   -- nothing is refused, and the frame is unpacked
   pub unpack-0 : {left : List ℤ} → length w ≡ 76 → length b ≡ 33 → every (eqb 0) (spare b) ≡ true → left ≡ unpacked b → Unpacks b w 0 left
-  unpack-0 h g e p = let r = unpack-done b w (unpack-allows b w h g e) in record { number = rw r; codewords = rw r p }
+  unpack-0 h g e p = let r = unpack-done b w (unpack-exactly b w .allows h g e) in record { number = rw r; codewords = rw r p }
 
 -- ---- the spare bits
 

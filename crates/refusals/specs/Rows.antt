@@ -16,15 +16,6 @@ unfolding refusal
 refusal-none true n rows e = absurd (omega arith)
 refusal-none false n rows e = (refl, e)
 
--- three rows that give 0, the first two of lengths: all three are right
-pub three-right : {A B : Type 0} (l m i j k : ℕ) (xs : List A) (ys : List B) (good : Bool)
-    → refusal ((not-of l xs, suc i) ∷ (not-of m ys, suc j) ∷ (not good, suc k) ∷ []) ≡ 0 → (length xs ≡ l) × (length ys ≡ m) × (good ≡ true)
-three-right l m i j k xs ys good e =
-    let r = refusal-none (not-of l xs) i _ e in
-    let s = refusal-none (not-of m ys) j _ (r .1) in
-    let t = refusal-none (not good) k _ (s .1) in
-    (sized-length l xs (not-false _ (r .0)), sized-length m ys (not-false _ (s .0)), not-false good (t .0))
-
 -- what holds where the call is done, and at each refusal, holds of the answer
 pub by-answer : {A : Type 0} (Q : A → Type 0) (n : ℕ) {done : A} {refused : ℕ → A}
     → (n ≡ 0 → Q done) → ((k : ℕ) → Q (refused k)) → Q (answer n done refused)
@@ -39,29 +30,33 @@ unfolding answer
 answer-number number zero d r = d
 answer-number number (suc n) d r = r (suc n)
 
--- ---- the number that three such rows give
+-- ---- three rows: two lengths, then a test
 
-module _ {A B : Type 0} (l m i j k : ℕ) (xs : List A) (ys : List B) (good : Bool) where
-  -- what is wrong with the first, then the second length, then with what is tested
-  abbrev pub three : List (Bool × ℕ)
-  three = (not-of l xs, i) ∷ (not-of m ys, j) ∷ (not good, k) ∷ []
+-- n is the number of the first that is wrong, and 0 exactly when none is
+pub record Exactly {A B : Type 0} (n l m i j k : ℕ) (xs : List A) (ys : List B) (good : Bool) : Type 0 where
+  pub first : ¬ (length xs ≡ l) → n ≡ i
+  pub second : length xs ≡ l → ¬ (length ys ≡ m) → n ≡ j
+  pub third : length xs ≡ l → length ys ≡ m → good ≡ false → n ≡ k
+  pub allows : length xs ≡ l → length ys ≡ m → good ≡ true → n ≡ 0
+  pub allowed : n ≡ 0 → (length xs ≡ l) × (length ys ≡ m) × (good ≡ true)
 
-  -- a wrong first length gives the first number, whatever else is wrong
-  pub three-first : (length xs ≡ l → ⊥) → refusal three ≡ i
-  unfolding refusal
-  three-first h = rw (ne-eqb (length xs) l h)
-
-  -- a wrong second one the second
-  pub three-second : length xs ≡ l → (length ys ≡ m → ⊥) → refusal three ≡ j
-  unfolding refusal
-  three-second h g = rw (eq-eqb (length xs) l h, ne-eqb (length ys) m g)
-
-  -- and the third is given where both are right
-  pub three-third : length xs ≡ l → length ys ≡ m → good ≡ false → refusal three ≡ k
-  unfolding refusal
-  three-third h g e = rw (eq-eqb (length xs) l h, eq-eqb (length ys) m g, e)
-
-  -- 0 where nothing is wrong
-  pub three-none : length xs ≡ l → length ys ≡ m → good ≡ true → refusal three ≡ 0
-  unfolding refusal
-  three-none h g e = rw (eq-eqb (length xs) l h, eq-eqb (length ys) m g, e)
+-- so is the number that such rows give
+pub three : {A B : Type 0} (l m i j k : ℕ) (xs : List A) (ys : List B) (good : Bool)
+    → Exactly (refusal ((not-of l xs, suc i) ∷ (not-of m ys, suc j) ∷ (not good, suc k) ∷ [])) l m (suc i) (suc j) (suc k) xs ys good
+unfolding refusal
+three l m i j k xs ys good =
+    record {
+      first = λ h. rw (ne-eqb (length xs) l h);
+      second = λ h g. rw (eq-eqb (length xs) l h, ne-eqb (length ys) m g);
+      third = λ h g e. rw (eq-eqb (length xs) l h, eq-eqb (length ys) m g, e);
+      allows = λ h g e. rw (eq-eqb (length xs) l h, eq-eqb (length ys) m g, e);
+      allowed = right;
+    }
+  where
+    right : refusal ((not-of l xs, suc i) ∷ (not-of m ys, suc j) ∷ (not good, suc k) ∷ []) ≡ 0 → (length xs ≡ l) × (length ys ≡ m) × (good ≡ true)
+    right e =
+        let last : List (Bool × ℕ) = (not good, suc k) ∷ [] in
+        let r = refusal-none (not-of l xs) i ((not-of m ys, suc j) ∷ last) e in
+        let s = refusal-none (not-of m ys) j last (r .1) in
+        let t = refusal-none (not good) k [] (s .1) in
+        (sized-length l xs (not-false _ (r .0)), sized-length m ys (not-false _ (s .0)), not-false good (t .0))

@@ -14,7 +14,7 @@ use Rattle.standard.specs.House.{home-coder, home-decoder, sound-coder, sound-d
 use Rattle.standard.specs.Answers.{Encoded, encode, Decoded, decode}
 use Rattle.arithmetic.specs.Within.{word, word-is}
 use Rattle.refusals.specs.Rows.{by-answer}
-use Rattle.refusals.specs.Calls.{encode-allows, decode-allows}
+use Rattle.refusals.specs.Calls.{encode-exactly, decode-exactly}
 use Rattle.lengths.specs.Frames.{home-decoder-sound, decoded-sound}
 use Rattle.soundness.specs.Ranges.{so-range, sof-range}
 use Rattle.soundness.specs.Offset.{downscaled-in, sound-offset, plain-offset, offset-plain, offset-sound, offset-in}
@@ -79,7 +79,7 @@ module _ (frames : List (List ℤ)) (h : every (every word) frames ≡ true) whe
 
   -- so encode never refuses it for its state
   pub encode-from-home : (s w : List ℤ) → length s ≡ 160 → length w ≡ 76 → encode-refusal (run coded home-coder frames .0) s w ≡ 0
-  encode-from-home s w l k = encode-allows (run coded home-coder frames .0) s w l k coded-from-home
+  encode-from-home s w l k = encode-exactly (run coded home-coder frames .0) s w .allows l k coded-from-home
 
 -- ---- the decoder
 
@@ -102,4 +102,4 @@ module _ (frames : List Frame) where
 
   -- so decode never refuses it for its state
   pub decode-from-home : (w s : List ℤ) → length s ≡ 160 → length w ≡ 76 → decode-refusal (run decoded home-decoder frames .0) w s ≡ 0
-  decode-from-home w s l k = decode-allows (run decoded home-decoder frames .0) w s l k decoded-from-home
+  decode-from-home w s l k = decode-exactly (run decoded home-decoder frames .0) w s .allows l k decoded-from-home

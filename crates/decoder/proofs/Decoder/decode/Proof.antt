@@ -6,7 +6,7 @@ use lib.IntN.{ℤ}
 use borrow.Author.Needs.{needs}
 use borrow.Author.Tests.{not-true, not-false}
 use Rattle.standard.specs.House.{sound-decoder, decode-refusal}
-use Rattle.refusals.specs.Calls.{decode-first, decode-second, decode-third, decode-allows}
+use Rattle.refusals.specs.Calls.{decode-exactly}
 use Rattle.decoder.specs.declared.Decoder.{Decoder}
 use Rattle.decoder.specs.declared.Decoded.{Decoded}
 use Rattle.decoder.specs.Promise.{memory, Decodes, refused, refusal-keeps, done-keeps}
@@ -19,17 +19,17 @@ refuses : (d : Decoder) (codewords lent : List ℤ) (n : ℕ) (a : Decoded)
 refuses d codewords lent n a h e = rw e (refusal-keeps d codewords lent n h)
 
 returns : tie.Need-returns
-returns c = refuses _ _ _ 0 _ (decode-first _ _ _ (c .before .if1 .taken)) (c .refuse .ensures)
+returns c = refuses _ _ _ 0 _ (decode-exactly _ _ _ .first (c .before .if1 .taken)) (c .refuse .ensures)
 
 returns-2 : tie.Need-returns-2
 returns-2 c =
-    refuses _ _ _ 1 _ (decode-second _ _ _ (c .before .before .if1 .left) (c .before .if2 .taken)) (c .refuse2 .ensures)
+    refuses _ _ _ 1 _ (decode-exactly _ _ _ .second (c .before .before .if1 .left) (c .before .if2 .taken)) (c .refuse2 .ensures)
 
 returns-3 : tie.Need-returns-3
 returns-3 c =
     let t = c .before .before in
     let unsound = sym (t .sound .ensures) ∙ not-true _ (c .before .if3 .taken) in
-    refuses _ _ _ 2 _ (decode-third _ _ _ (t .before .before .if1 .left) (t .before .if2 .left) unsound) (c .refuse3 .ensures)
+    refuses _ _ _ 2 _ (decode-exactly _ _ _ .third (t .before .before .if1 .left) (t .before .if2 .left) unsound) (c .refuse3 .ensures)
 
 -- past the three tests
 passed : (c : tie.Else3) → sound-decoder (memory (c .before .before .before .before .args .self)) ≡ true
@@ -42,7 +42,7 @@ frame-requires c κs = (search needs, (search needs, passed (c .before)))
 returns-4 : tie.Need-returns-4
 returns-4 c =
     let t = c .before .before .before in
-    done-keeps _ _ _ _ _ (decode-allows _ _ _ (t .before .before .before .if1 .left) (t .before .before .if2 .left) (passed t))
+    done-keeps _ _ _ _ _ (decode-exactly _ _ _ .allows (t .before .before .before .if1 .left) (t .before .before .if2 .left) (passed t))
     (c .before .frame .ensures .0) (c .before .frame .ensures .1)
 
 pub decode-spec : {M : Type 1} → statement M
