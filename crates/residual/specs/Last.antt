@@ -21,6 +21,7 @@ sub-last : (s : List ℤ × ℤ) (f : Subframe) → Start s → sub-decoded s f 
 unfolding sub-decoded
 sub-last s f h = window-updated (s .0) _ 0 (omega (arith, h))
 
+-- the history that any number of them leave
 pub last-is : (s : List ℤ × ℤ) (fs : List Subframe) → Start s → every full fs ≡ true
     → run sub-decoded s fs .0 .0 ≡ drop (length fs * 40) (s .0 ++ flatten (run sub-decoded s fs .1))
 unfolding run flatten
