@@ -14,8 +14,8 @@ use Rattle.lists.specs.For.{by-entries}
 use Rattle.standard.specs.Arithmetic.{within, add, sub, mult-r}
 use Rattle.standard.specs.Tables.{neg, _at_}
 use Rattle.standard.specs.Decoder.{inverse-section, synthesised, de-emphasis, srop}
-use Rattle.arithmetic.specs.Clip.{plus-plain, minus-plain}
-use Rattle.arithmetic.specs.Within.{within-yes, within-is, range-is, word, word-is}
+use Rattle.arithmetic.specs.Clip.{plus-plain, minus-plain, plus-fits, minus-fits}
+use Rattle.arithmetic.specs.Within.{within-yes, within-is, range-is, word, word-is, word-yes}
 use Rattle.synthesis.specs.declared.Line.{Line}
 use Rattle.synthesis.specs.Speech.{speech, not-least, synthesised-words}
 
@@ -154,6 +154,32 @@ words-held = held word word-is
 -- and factors
 pub factors-held : (l : Line) → Each factor l → Held l
 factors-held = held factor factor-is
+
+-- ---- one section, of what went through locals: mr, mv and ms are what they give back of r, v and sri
+
+module _ {r v s mr mv ms x m : ℤ} (er : mr ≡ r) (ev : mv ≡ v) (es : ms ≡ s) (em : m ≡ x) where
+  -- a plain difference
+  pub lowered-is : x ≡ ms -ℤ mult-r mr mv → m ≡ s -ℤ mult-r r v
+  lowered-is e = em ∙ rw (er, ev, es) at e
+
+  -- a plain sum
+  pub raised-is : x ≡ mv +ℤ mult-r mr ms → m ≡ v +ℤ mult-r r s
+  raised-is e = em ∙ rw (er, ev, es) at e
+
+module _ {r v s mr mv ms o : ℤ} (er : mr ≡ r) (ev : mv ≡ v) (es : ms ≡ s) (eo : o ≡ sub ms (mult-r mr mv)) where
+  -- a difference with its limit is a word
+  pub out-word : word o ≡ true
+  out-word = rw eo (word-yes (sub ms (mult-r mr mv)) (minus-fits w16 ms (mult-r mr mv)))
+
+  -- and the local that holds it has it
+  pub out-is : mem w32 o ≡ sub s (mult-r r v)
+  out-is = word-back o out-word ∙ rw (er, ev, es) at eo
+
+  -- so has the one that holds the sum with its limit
+  pub above-is : {a : ℤ} → a ≡ add mv (mult-r mr o) → mem w32 a ≡ add v (mult-r r (mem w32 o))
+  above-is {a} e =
+      let f : mem w32 a ≡ a = rw e (back (wide (plus-fits w16 mv (mult-r mr o)) tt)) in
+      f ∙ rw (er, ev, ← word-back o out-word) at e
 
 -- ---- the sections
 

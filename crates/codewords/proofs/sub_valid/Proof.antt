@@ -1,17 +1,18 @@
-use mathlib.Core.Path.{_≡_, refl}
+use mathlib.Core.Path.{_≡_, refl, _∙_}
 use mathlib.Core.List.{zipWith}
 use Prim.Native.Nat.{_-_, _≤_}
 use native.Mathlib.Omega.{arith}
 use lib.IntN.{pos}
-use lib.ListN.{length, getD, length-set, replicate}
+use lib.ListN.{length, length-set, replicate}
 use mir.Syntax.{w16}
 use mir.Val.{SFits}
 use borrow.Author.Needs.{needs}
 use Rattle.integers.specs.Ranges.{back, res}
-use Rattle.lists.specs.Fill.{filled, fill-next, fill-end}
-use Rattle.lists.specs.Tab.{zip-length, zip-at}
+use Rattle.lists.specs.Fill.{filled}
+use Rattle.standard.specs.Tables.{_at_}
 use Rattle.standard.specs.Frame.{sub-widths}
 use Rattle.fields.specs.Valid.{low-bits}
+use Rattle.codewords.specs.Masked.{masked-next, masked-end}
 use Rattle.codewords.specs.Widths.{sub-most}
 use Rattle.codewords.proofs.sub_valid.Statement.{statement}
 use Rattle.codewords.proofs.sub_valid.Tie as tie
@@ -32,20 +33,17 @@ loop-again : tie.Need-loop-again Inv-loop μ-loop
 unfolding sub-widths
 loop-again c =
     let k = c .before .before .before .before in
-    let i = k .loop .i in
     let xs = k .before .args .c .now in
-    let f : SFits w16 (getD xs i (pos 0)) = search needs in (
+    let f : SFits w16 (xs at k .loop .i) = search needs in (
       search needs,
       simp length-set (k .loop .inv .1),
-      fill-next (zipWith low-bits sub-widths xs) (replicate 17 (pos 0)) i (k .loop .inv .2) (pos 0) (rw zip-length (omega arith)) (omega arith)
-          (cc (back f, res (c .low-bits), c .before .sub-width .ensures, zip-at low-bits sub-widths xs i 0 (pos 0) (pos 0) (omega arith) (omega arith))),
+      masked-next sub-widths xs (replicate 17 (pos 0)) (k .before .pre) refl (k .loop .inv .2) (omega arith) (c .before .sub-width .ensures) (back f)
+          (res (c .low-bits) ∙ c .low-bits .ensures),
     )
 
 returns : tie.Need-returns Inv-loop μ-loop
 unfolding sub-widths
-returns c =
-    let k = c .before in
-    fill-end (zipWith low-bits sub-widths (k .before .args .c .now)) (replicate 17 (pos 0)) (k .loop .i) (k .loop .inv .2) (rw zip-length (omega arith)) (omega arith)
+returns c = let k = c .before in masked-end sub-widths _ (replicate 17 (pos 0)) (k .before .pre) refl (k .loop .i) (k .loop .inv .2) (omega arith)
 
 pub sub-valid-spec : {M : Type 1} → statement M
 sub-valid-spec =

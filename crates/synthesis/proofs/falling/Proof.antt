@@ -1,13 +1,12 @@
 use Prim.Native.Nat.{_≤_}
-use mathlib.Core.Path.{_≡_, ap, _∙_}
+use mathlib.Core.Path.{refl, ap}
 use native.Mathlib.Omega.{arith}
-use lib.IntN.{_-ℤ_, natAbs}
+use lib.IntN.{natAbs}
 use mir.Syntax.{w32}
 use Rattle.integers.specs.Halves.{zar, know, mem}
 use Rattle.integers.specs.Ranges.{back, res}
-use Rattle.standard.specs.Arithmetic.{mult-r}
 use Rattle.arithmetic.specs.Within.{word-is}
-use Rattle.synthesis.specs.Lattice.{Held, words-held, factors-held}
+use Rattle.synthesis.specs.Lattice.{Held, words-held, factors-held, lowered-is}
 use Rattle.synthesis.proofs.falling.Statement.{statement}
 use Rattle.synthesis.proofs.falling.Tie as tie
 
@@ -127,56 +126,6 @@ lowered-requires-8 c κs =
     let s = entry-7 b in
     (rw (factors s .v0) (s .pre .0 .v0), rw (words s .v0) (s .pre .1 .v0), rw (res (b .lowered7)) (omega (arith, near-7 b)))
 
--- ---- what it is
-
-fallen-1 : (c : tie.After-lowered) → let s = entry-1 c in
-    mem w32 (c .lowered .result) ≡ s .args .wt -ℤ mult-r (s .args .r .v7) (s .args .v .v7)
-fallen-1 c =
-    let s = entry-1 c in
-    res (c .lowered) ∙ rw (back (s .fits .wt), factors s .v7, words s .v7) at (c .lowered .ensures .0)
-
-fallen-2 : (c : tie.After-lowered2) → let s = entry-2 c in
-    mem w32 (c .lowered2 .result) ≡ mem w32 (c .before .before .before .lowered .result) -ℤ mult-r (s .args .r .v6) (s .args .v .v6)
-fallen-2 c =
-    let s = entry-2 c in
-    res (c .lowered2) ∙ rw (factors s .v6, words s .v6) at (c .lowered2 .ensures .0)
-
-fallen-3 : (c : tie.After-lowered3) → let s = entry-3 c in
-    mem w32 (c .lowered3 .result) ≡ mem w32 (c .before .before .before .lowered2 .result) -ℤ mult-r (s .args .r .v5) (s .args .v .v5)
-fallen-3 c =
-    let s = entry-3 c in
-    res (c .lowered3) ∙ rw (factors s .v5, words s .v5) at (c .lowered3 .ensures .0)
-
-fallen-4 : (c : tie.After-lowered4) → let s = entry-4 c in
-    mem w32 (c .lowered4 .result) ≡ mem w32 (c .before .before .before .lowered3 .result) -ℤ mult-r (s .args .r .v4) (s .args .v .v4)
-fallen-4 c =
-    let s = entry-4 c in
-    res (c .lowered4) ∙ rw (factors s .v4, words s .v4) at (c .lowered4 .ensures .0)
-
-fallen-5 : (c : tie.After-lowered5) → let s = entry-5 c in
-    mem w32 (c .lowered5 .result) ≡ mem w32 (c .before .before .before .lowered4 .result) -ℤ mult-r (s .args .r .v3) (s .args .v .v3)
-fallen-5 c =
-    let s = entry-5 c in
-    res (c .lowered5) ∙ rw (factors s .v3, words s .v3) at (c .lowered5 .ensures .0)
-
-fallen-6 : (c : tie.After-lowered6) → let s = entry-6 c in
-    mem w32 (c .lowered6 .result) ≡ mem w32 (c .before .before .before .lowered5 .result) -ℤ mult-r (s .args .r .v2) (s .args .v .v2)
-fallen-6 c =
-    let s = entry-6 c in
-    res (c .lowered6) ∙ rw (factors s .v2, words s .v2) at (c .lowered6 .ensures .0)
-
-fallen-7 : (c : tie.After-lowered7) → let s = entry-7 c in
-    mem w32 (c .lowered7 .result) ≡ mem w32 (c .before .before .before .lowered6 .result) -ℤ mult-r (s .args .r .v1) (s .args .v .v1)
-fallen-7 c =
-    let s = entry-7 c in
-    res (c .lowered7) ∙ rw (factors s .v1, words s .v1) at (c .lowered7 .ensures .0)
-
-fallen-8 : (c : tie.After-lowered8) → let s = entry-8 c in
-    mem w32 (c .lowered8 .result) ≡ mem w32 (c .before .before .before .lowered7 .result) -ℤ mult-r (s .args .r .v0) (s .args .v .v0)
-fallen-8 c =
-    let s = entry-8 c in
-    res (c .lowered8) ∙ rw (factors s .v0, words s .v0) at (c .lowered8 .ensures .0)
-
 returns : tie.Need-returns
 returns c =
     let c7 = c .before .before .before in
@@ -186,15 +135,16 @@ returns c =
     let c3 = c4 .before .before .before in
     let c2 = c3 .before .before .before in
     let c1 = c2 .before .before .before in
+    let s = entry-1 c1 in
     record {
-      v7 = fallen-1 c1;
-      v6 = fallen-2 c2;
-      v5 = fallen-3 c3;
-      v4 = fallen-4 c4;
-      v3 = fallen-5 c5;
-      v2 = fallen-6 c6;
-      v1 = fallen-7 c7;
-      v0 = fallen-8 c;
+      v7 = lowered-is (factors s .v7) (words s .v7) (back (s .fits .wt)) (res (c1 .lowered)) (c1 .lowered .ensures .0);
+      v6 = lowered-is {s = mem w32 (c1 .lowered .result)} (factors s .v6) (words s .v6) refl (res (c2 .lowered2)) (c2 .lowered2 .ensures .0);
+      v5 = lowered-is {s = mem w32 (c2 .lowered2 .result)} (factors s .v5) (words s .v5) refl (res (c3 .lowered3)) (c3 .lowered3 .ensures .0);
+      v4 = lowered-is {s = mem w32 (c3 .lowered3 .result)} (factors s .v4) (words s .v4) refl (res (c4 .lowered4)) (c4 .lowered4 .ensures .0);
+      v3 = lowered-is {s = mem w32 (c4 .lowered4 .result)} (factors s .v3) (words s .v3) refl (res (c5 .lowered5)) (c5 .lowered5 .ensures .0);
+      v2 = lowered-is {s = mem w32 (c5 .lowered5 .result)} (factors s .v2) (words s .v2) refl (res (c6 .lowered6)) (c6 .lowered6 .ensures .0);
+      v1 = lowered-is {s = mem w32 (c6 .lowered6 .result)} (factors s .v1) (words s .v1) refl (res (c7 .lowered7)) (c7 .lowered7 .ensures .0);
+      v0 = lowered-is {s = mem w32 (c7 .lowered7 .result)} (factors s .v0) (words s .v0) refl (res (c .lowered8)) (c .lowered8 .ensures .0);
     }
 
 pub falling-spec : {M : Type 1} → statement M
