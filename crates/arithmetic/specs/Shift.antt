@@ -8,7 +8,7 @@ use native.Mathlib.Nat.{div-eq-of-lt, mod-lt, mod-eq-of-lt, div-add-mod', mul-mo
 use lib.Pow.{pow-mono, pow-add, pow-pos}
 use lib.Arith.{digits-div, digits-mod, mod-mul}
 use lib.IntN.{ℤ, pos, negsuc, _+ℤ_, _*ℤ_, negℤ, natAbs}
-use lib.Signed.{ltZ}
+use lib.Signed.{ltZ, shrZ}
 use mir.Syntax.{Width, w16, w32}
 use mir.Val.{SFits, bits, hbits, ofZ, toZ}
 use mir.Facts.{toZ-ofZ, toZ-pos, toZ-neg, sfits-toZ}
@@ -29,11 +29,14 @@ pub down-all : (w : Width) (z : ℤ) (n : ℕ) → SFits w z → hbits w ≤ n �
 down-all w (pos a) n f h = ap pos (div-eq-of-lt (omega (arith, f .sfits, pow-mono h)) ∙ sym (div-eq-of-lt (f .sfits)))
 down-all w (negsuc a) n f h = ap negsuc (div-eq-of-lt (omega (arith, f .sfits, pow-mono h)) ∙ sym (div-eq-of-lt (f .sfits)))
 
--- a bounded value, shifted right, is bounded
+-- a bounded value, divided by a power of 2 or by any m and rounded down, is bounded
+pub shr-in : (z : ℤ) (m B : ℕ) → 0 < m → P z ≤ m * B → N z ≤ m * B → (P (shrZ z m) ≤ B) × (N (shrZ z m) ≤ B)
+shr-in z m B h p q =
+    let r = shr-is z m h in
+    (rw (r .0) (div-le-of-le-mul m p), rw (r .1) (le-of-suc-le-suc (div-lt-iff-lt-mul h .1 (omega arith))))
+
 pub down-in : (z : ℤ) (n B : ℕ) → P z ≤ 2 ^ n * B → N z ≤ 2 ^ n * B → (P (z >> n) ≤ B) × (N (z >> n) ≤ B)
-down-in z n B p q =
-    let r = shr-is z (2 ^ n) (pow-pos n) in
-    (rw (r .0) (div-le-of-le-mul (2 ^ n) p), rw (r .1) (le-of-suc-le-suc (div-lt-iff-lt-mul (pow-pos n) .1 (omega (arith, pow-pos n)))))
+down-in z n B = shr-in z (2 ^ n) B (pow-pos n)
 
 -- ---- to the left
 

@@ -1,37 +1,55 @@
 -- A sum of bounded terms: it stays within its bound at every step, so a clipping sum that has room is the plain one.
 use Prim.Native.Nat.{ℕ, suc, _+_, _*_, _^_, _<_, _≤_}
-use mathlib.Core.Path.{_≡_}
-use mathlib.Core.List.{List, foldl}
+use mathlib.Core.Path.{_≡_, refl, ap, _∙_}
+use mathlib.Core.List.{List, [], _∷_, foldl}
 use native.Mathlib.Omega.{arith}
-use native.Mathlib.Nat.{mul-le-mul-right}
+use native.Mathlib.Nat.{sub-zero}
 use lib.IntN.{ℤ, pos, _+ℤ_, natAbs}
-use lib.ListN.{length, getD}
+use lib.ListN.{length, getD, replicate}
 use mir.Syntax.{Width}
-use mir.Val.{SFits, hbits}
+use mir.Val.{hbits}
 use Rattle.integers.specs.Halves.{zar, apart, abs-is}
 use Rattle.integers.specs.Sums.{add-is}
-use Rattle.lists.specs.Steps.{fold-keeps, fold-same}
+use Rattle.lists.specs.Cut.{sum, rest-sum}
 use Rattle.standard.specs.Arithmetic.{plus}
 use Rattle.arithmetic.specs.Clip.{plus-plain}
 
--- from a start within C, over terms within B
-module _ (w : Width) (B C : ℕ) (xs : List ℤ) (s : ℤ) (start : natAbs s ≤ C) (terms : (i : ℕ) → i < length xs → natAbs (getD xs i (pos 0)) ≤ B) (room : C + length xs * B < 2 ^ hbits w) where
+-- each term is within the bound at its place
+infixr 20 _also_
+pub data Bounded : List ℤ → List ℕ → Type 0 where
+  none : Bounded [] []
+  _also_ : {x : ℤ} {b : ℕ} {xs : List ℤ} {bs : List ℕ} → natAbs x ≤ b → Bounded xs bs → Bounded (x ∷ xs) (b ∷ bs)
+
+module _ (w : Width) where
   -- one more term has room, and keeps the bound
-  next : (i : ℕ) (t : ℤ) → i < length xs → natAbs t ≤ C + i * B → SFits w (t +ℤ getD xs i (pos 0)) × (natAbs (t +ℤ getD xs i (pos 0)) ≤ C + suc i * B)
-  next i t h k =
-      let x = getD xs i (pos 0) in
-      let m : suc i * B ≤ length xs * B = mul-le-mul-right B h in
-      let b : natAbs x ≤ B = terms i h in
-      (omega (zar, add-is t x, abs-is t, abs-is x), omega (zar, add-is t x, abs-is t, abs-is x, abs-is (t +ℤ x), apart (t +ℤ x)))
+  next : (C b : ℕ) (s x : ℤ) → natAbs s ≤ C → natAbs x ≤ b → C + b < 2 ^ hbits w → (plus w s x ≡ s +ℤ x) × (natAbs (plus w s x) ≤ C + b)
+  next C b s x h k r =
+      let e : plus w s x ≡ s +ℤ x = plus-plain s x (omega (zar, add-is s x, abs-is s, abs-is x)) in
+      (e, rw e (omega (zar, add-is s x, abs-is s, abs-is x, abs-is (s +ℤ x), apart (s +ℤ x))))
 
-  plain : (i : ℕ) (t : ℤ) → i < length xs → natAbs t ≤ C + i * B → plus w t (getD xs i (pos 0)) ≡ t +ℤ getD xs i (pos 0)
-  plain i t h k = plus-plain t (getD xs i (pos 0)) (next i t h k .0)
+  -- from a start within C, over terms that each have a bound of their own
+  pub bounded-sum : {xs : List ℤ} {bs : List ℕ} → Bounded xs bs → (C : ℕ) (s : ℤ) → natAbs s ≤ C → C + sum bs < 2 ^ hbits w
+      → (foldl (plus w) s xs ≡ foldl _+ℤ_ s xs) × (natAbs (foldl (plus w) s xs) ≤ C + sum bs)
+  bounded-sum none C s h r = (refl, omega arith)
+  bounded-sum (_also_ {x = x} {b = b} {xs = xs} k t) C s h r =
+      let (e, g) = next C b s x h k (omega arith) in
+      let (f, l) = bounded-sum t (C + b) (plus w s x) g (omega arith) in
+      (f ∙ ap (λ (y : ℤ). foldl _+ℤ_ y xs) e, omega arith)
 
-  kept : (i : ℕ) (t : ℤ) → i < length xs → natAbs t ≤ C + i * B → natAbs (plus w t (getD xs i (pos 0))) ≤ C + suc i * B
-  kept i t h k = rw (plain i t h k) (next i t h k .1)
+-- one bound for all terms
+alike : (B : ℕ) (xs : List ℤ) → ((i : ℕ) → i < length xs → natAbs (getD xs i (pos 0)) ≤ B) → Bounded xs (replicate (length xs) B)
+alike B [] t = none
+alike B (x ∷ xs) t = t 0 (omega arith) also alike B xs (λ i h. t (suc i) (omega arith))
+
+module _ (w : Width) (B C : ℕ) (xs : List ℤ) (s : ℤ) (start : natAbs s ≤ C) (terms : (i : ℕ) → i < length xs → natAbs (getD xs i (pos 0)) ≤ B) (room : C + length xs * B < 2 ^ hbits w) where
+  total : sum (replicate (length xs) B) ≡ length xs * B
+  total = omega (arith, rw (sub-zero (length xs)) at (rest-sum B (length xs) 0))
+
+  both : (foldl (plus w) s xs ≡ foldl _+ℤ_ s xs) × (natAbs (foldl (plus w) s xs) ≤ C + sum (replicate (length xs) B))
+  both = bounded-sum w (alike B xs terms) C s start (rw total room)
 
   pub sum-in : natAbs (foldl (plus w) s xs) ≤ C + length xs * B
-  sum-in = fold-keeps (plus w) xs (pos 0) s (λ i t. natAbs t ≤ C + i * B) (omega arith) kept
+  sum-in = rw total at (both .1)
 
   pub sum-plain : foldl (plus w) s xs ≡ foldl _+ℤ_ s xs
-  sum-plain = fold-same (plus w) _+ℤ_ xs (pos 0) s (λ i t. natAbs t ≤ C + i * B) (omega arith) kept plain
+  sum-plain = both .0

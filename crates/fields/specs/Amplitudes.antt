@@ -59,10 +59,10 @@ gone-yes n i t =
 gone-no : (n i : ℕ) → gone n i ≡ false → 2 ^ (9 + i) ≤ n
 gone-no n i t = omega (arith, le-div-iff-mul-le {x = 1} {y = n} (pow-pos (9 + i)) .0 (leb-false (n / 2 ^ (9 + i)) 0 t))
 
--- exp is from 0 to 6
-exp-in : (n : ℕ) → exponent (pos n) ≤ 6
+-- exp is from 0 to 6, whatever xmax
+pub exp-in : (xmax : ℤ) → exponent xmax ≤ 6
 unfolding exponent
-exp-in n = first-le (gone n) 6 0
+exp-in xmax = first-le (λ i. leZ (xmax >> (9 + i)) (pos 0)) 6 0
 
 -- xmax is below the power of 2 that exp says
 exp-below : (n : ℕ) → n ≤ 32767 → n < 2 ^ (9 + exponent (pos n))
@@ -101,7 +101,7 @@ parts n h =
     let e = exponent (pos n) in
     let m = n / 2 ^ (e + 5) in
     let p = pow-pos (e + 5) in
-    let l = exp-in n in
+    let l = exp-in (pos n) in
     let most : m ≤ 15 = le-of-suc-le-suc (div-lt-iff-lt-mul p .1 (omega (arith, exp-below n h, pow-add 2 9 e, pow-add 2 e 5))) in
     let shifted : pos e << 3 ≡ pos (e * 8) = keep-plain {w = w16} {z = pos (e * 8)} (omega zar) in
     record {

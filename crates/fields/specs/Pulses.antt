@@ -46,12 +46,12 @@ abbrev pub pulse : Amplitude → ℤ → ℤ
 pulse a xM = add (mult (shl w16 xM (sub (pos 6) (a .exp))) (NRFAC at a .mant) >> 12) (pos 4)
 
 -- the shift of the greatest xmax that has code c loses nothing, and its product with NRFAC stays below 16384 · 32768
-record Room (c : ℕ) : Type 0 where
-  shift : ℕ
+pub record Room (c : ℕ) : Type 0 where
+  pub shift : ℕ
   factor : ℕ
-  shift-is : sub (pos 6) (amplitude (pos c) .exp) ≡ pos shift
+  pub shift-is : sub (pos 6) (amplitude (pos c) .exp) ≡ pos shift
   factor-is : NRFAC at amplitude (pos c) .mant ≡ pos factor
-  word : top c * 2 ^ shift ≤ 32767
+  pub word : top c * 2 ^ shift ≤ 32767
   product : top c * 2 ^ shift * factor < 536870912
 
 -- the same as a test
@@ -69,7 +69,7 @@ unfolding every tab has-room amplitude mantissa first minus clip NRFAC
 rooms = refl
 
 -- so there is room for each
-room : (c : ℕ) → c < 64 → Room c
+pub room : (c : ℕ) → c < 64 → Room c
 unfolding has-room
 room c h =
     let a = amplitude (pos c) in
@@ -123,6 +123,13 @@ least : fit 3 (pulse (amplitude (xmaxc (pos 32767))) (negsuc 32767)) ≡ true
 unfolding fit clip modulo keep plus minus shl mult first exponent xmaxc mantissa amplitude NRFAC
 least = refl
 
+-- xmaxc as a number from 0 to 63
+pub code-in : (xmax : ℤ) → within (pos 0) (pos 32767) xmax ≡ true → let c = natAbs (xmaxc xmax) in (xmaxc xmax ≡ pos c) × (c < 64)
+code-in xmax h =
+    let p = fit-is 6 (xmaxc xmax) (xmaxc-fits xmax h) in
+    let a = abs-is (xmaxc xmax) in
+    (omega zar, omega arith)
+
 -- the code of a pulse that is not larger than xmax is from 0 to 7
 pub pulse-fits : (xmax x : ℤ) → within (pos 0) (pos 32767) xmax ≡ true → SFits w16 x → leZ (abs x) xmax ≡ true
     → fit 3 (pulse (amplitude (xmaxc xmax)) x) ≡ true
@@ -130,11 +137,9 @@ pulse-fits xmax x h f g = ⊎-elim plain extreme (le-or-lt (N x) 32767)
   where
     plain : N x ≤ 32767 → fit 3 (pulse (amplitude (xmaxc xmax)) x) ≡ true
     plain l =
-        let c = natAbs (xmaxc xmax) in
-        let p : (P (xmaxc xmax) < 64) × (N (xmaxc xmax) ≡ 0) = fit-is 6 (xmaxc xmax) (xmaxc-fits xmax h) in
-        let e : xmaxc xmax ≡ pos c = omega (zar, abs-is (xmaxc xmax)) in
+        let (e, l′) = code-in xmax h in
         let t = top-covers xmax h in
-        rw e (pulse-in c x (omega (arith, abs-is (xmaxc xmax))) (omega (zar, know f, abs-clip x)))
+        rw e (pulse-in (natAbs (xmaxc xmax)) x l′ (omega (zar, know f, abs-clip x)))
 
     extreme : 32767 < N x → fit 3 (pulse (amplitude (xmaxc xmax)) x) ≡ true
     extreme l =

@@ -31,7 +31,7 @@ exp-turn i (exp, temp, itest) =
     (cond (eqb itest′ 0) (add exp (pos 1)) exp, temp′, itest′)
 
 -- two shifts are one
-shifted : (x : ℤ) (m n : ℕ) → x >> m >> n ≡ x >> (m + n)
+pub shifted : (x : ℤ) (m n : ℕ) → x >> m >> n ≡ x >> (m + n)
 shifted (pos a) m n = ap pos (div-div-eq-div-mul a (2 ^ m) (2 ^ n) ∙ rw (pow-add 2 m n))
 shifted (negsuc a) m n = ap negsuc (div-div-eq-div-mul a (2 ^ m) (2 ^ n) ∙ rw (pow-add 2 m n))
 

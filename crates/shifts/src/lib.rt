@@ -6,6 +6,7 @@ ghost use lib.IntN.{natAbs};
 ghost use lib.Signed.{shrZ};
 ghost use mir.Syntax.{w16, w32};
 ghost use Rattle.standard.specs.Arithmetic.{up, shr, shl};
+ghost use Rattle.standard.specs.Lpc.{normalized};
 
 // The size of a count.
 fn size(n: i16) -> u16
@@ -86,4 +87,11 @@ pub fn l_shl(x: i32, n: i16) -> i32
     } else {
         up_long(x, size(n))
     }
+}
+
+// The 16 high bits of a long word that was shifted left by n: ACF[k] in 4.2.5, R and S in 4.2.11.
+pub fn normalized(n: i16, x: i32) -> i16
+    ensures { λ r. ⌜ r ≡ normalized n x ⌝ }
+{
+    (l_shl(x, n) >> 16) as i16
 }

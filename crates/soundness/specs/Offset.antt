@@ -55,7 +55,7 @@ module _ (x : ℤ) (h : L-z2-range x ≡ true) where
 
 module _ (m : Offset) (h : sound-offset m ≡ true) where
   -- both ranges, for `omega`
-  sound-is : (P (m .z1) ≤ 16380) × (N (m .z1) ≤ 16384) × (P (error m) ≤ 536871409) × (N (error m) ≤ 536740337)
+  pub sound-is : (P (m .z1) ≤ 16380) × (N (m .z1) ≤ 16384) × (P (error m) ≤ 536871409) × (N (error m) ≤ 536740337)
   sound-is =
       let (a, b) = and-eq-true-iff (so-range (m .z1)) (error-range (error m)) .0 h in
       omega (arith, range-is 16384 16380 (m .z1) a, range-is 536740337 536871409 (error m) b)

@@ -1,7 +1,7 @@
 -- What the stages use of 4.4's tables.
 use Prim.Native.Nat.{ℕ, _+_, _-_, _^_, _<_, _≤_}
 use mathlib.Core.Path.{_≡_, refl, sym, ap, _∙_}
-use mathlib.Core.Bool.{true}
+use mathlib.Core.Bool.{Bool, true}
 use mathlib.Core.Logic.{⊎-elim}
 use mathlib.Core.List.{List, map, foldl, zipWith}
 use native.Mathlib.Omega.{arith}
@@ -10,32 +10,34 @@ use lib.Pow.{pow-pos}
 use lib.IntN.{ℤ, pos, _-ℤ_, natAbs}
 use lib.ListN.{length, getD, List·getD-eq-default}
 use lib.Signed.{leZ}
-use borrow.Author.Tests.{leb-true}
+use borrow.Author.Tests.{leb-true, le-leb}
 use Rattle.integers.specs.Halves.{P, N, zar, eq-is, apart, le-or-lt}
 use Rattle.integers.specs.Sums.{minus-is}
 use Rattle.lists.specs.Every.{every, every-at}
 use Rattle.lists.specs.Tab.{tab, tab-at-zero, map-at, zip-at}
-use Rattle.standard.specs.Tables.{_at_, MIC, MAC, H, FAC, LARc-bits}
+use Rattle.standard.specs.Tables.{_at_, MIC, MAC, H, FAC, NRFAC, LARc-bits}
 
 -- past its end a table has what is asked for there: 0
 pub past-end : {A : Type 0} {d : A} (t : List A) {i : ℕ} → length t ≤ i → d ≡ getD t i d
 past-end {A} {d} t {i} h = sym (List·getD-eq-default t d {n = i} h)
 
+-- what 0 and every entry pass, each place passes
+passes : (p : ℤ → Bool) (t : List ℤ) → p (pos 0) ≡ true → every p t ≡ true → (i : ℕ) → p (t at i) ≡ true
+passes p t z e i = ⊎-elim (λ h. rw (← past-end {d = pos 0} t {i = i} h) z) (λ h. every-at p t i (pos 0) e h) (le-or-lt (length t) i)
+
 -- a bound on the size of every entry, by one test over the table: `within A 20480 refl i`, under `unfolding A every`
 pub within : (t : List ℤ) (b : ℕ) → every (λ z. leb (natAbs z) b) t ≡ true → (i : ℕ) → natAbs (t at i) ≤ b
-within t b e i =
-    ⊎-elim
-    (λ h. rw (← past-end {d = pos 0} t {i = i} h) (omega arith))
-    (λ h. leb-true (natAbs (t at i)) b (every-at (λ z. leb (natAbs z) b) t i (pos 0) e h))
-    (le-or-lt (length t) i)
+within t b e i = leb-true (natAbs (t at i)) b (passes (λ z. leb (natAbs z) b) t (le-leb 0 b (omega arith)) e i)
 
 -- no mantissa is negative
-mantissas : every (leZ (pos 0)) FAC ≡ true
-unfolding every FAC
-mantissas = refl
-
 pub FAC-above : (i : ℕ) → leZ (pos 0) (FAC at i) ≡ true
-FAC-above i = ⊎-elim (λ h. rw (← past-end {d = pos 0} FAC {i = i} h) refl) (λ h. every-at (leZ (pos 0)) FAC i (pos 0) mantissas h) (le-or-lt (length FAC) i)
+unfolding every FAC
+FAC-above = passes (leZ (pos 0)) FAC refl refl
+
+-- nor an inverse one
+pub NRFAC-above : (i : ℕ) → leZ (pos 0) (NRFAC at i) ≡ true
+unfolding every NRFAC
+NRFAC-above = passes (leZ (pos 0)) NRFAC refl refl
 
 -- ---- the weighting filter
 

@@ -7,7 +7,7 @@ ghost use Rattle.integers.specs.Halves.{P};
 ghost use Rattle.standard.specs.Arithmetic.{clip, add, sub, mult, mult-r, abs, div};
 
 // Saturation at the ends of a word.
-fn clip_word(z: i32) -> i16
+pub fn clip_word(z: i32) -> i16
     ensures { λ r. ⌜ r ≡ clip w16 z ⌝ }
 {
     if z < -32768 {

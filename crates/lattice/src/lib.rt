@@ -1,0 +1,120 @@
+// 4.2.10: short term analysis filtering. 001 takes each sample through the eight sections. A section is fed with nothing that comes after
+// it, so here each section takes all 160 samples, and the compiler can do several at once.
+ghost use mathlib.Core.Path.{_≡_};
+ghost use mathlib.Core.Bool.{true};
+ghost use mathlib.Core.List.{_∷_, zip};
+ghost use lib.IntN.{pos};
+ghost use lib.ListN.{length, take, replicate};
+ghost use Rattle.lists.specs.Every.{every};
+ghost use Rattle.lists.specs.Scan.{run};
+ghost use Rattle.standard.specs.Arithmetic.{mult-r};
+ghost use Rattle.standard.specs.ShortTerm.{coefficients, analysed};
+ghost use Rattle.lattice.specs.Sections.{not-least, spread, further, saved, stage};
+
+// mult_r by a coefficient, which is not the least word: no limit can be met.
+fn term(rp: i16, x: i16) -> i16
+    requires { ⌜ not-least rp ≡ true ⌝ }
+    ensures { λ r. ⌜ r ≡ mult-r rp x ⌝ }
+{
+    ((rp as i32 * x as i32 + 16384) >> 15) as i16
+}
+
+// One coefficient at each sample of a stretch.
+fn constant(x: i16, part: &mut [i16])
+    ensures { λ _. ⌜ now (part .exit) ≡ replicate (length (now (part .entry))) x ⌝ }
+{
+    for k in 0..part.len() {
+        part[k] = x;
+    }
+}
+
+// A section's coefficient at each of the 160 samples, from those of the four stretches.
+fn spread(a: i16, b: i16, c: i16, d: i16, rp: &mut [i16])
+    requires { ⌜ length (now rp) ≡ 160 ⌝ }
+    ensures { λ _. ⌜ now (rp .exit) ≡ spread a b c d ⌝ }
+{
+    constant(a, &mut rp[0..13]);
+    constant(b, &mut rp[13..27]);
+    constant(c, &mut rp[27..40]);
+    constant(d, &mut rp[40..160]);
+}
+
+// What a section's cell holds at each sample: u at the first, then the sample before.
+fn delayed(u: i16, sav: &[i16], prev: &mut [i16])
+    requires { ⌜ (length (now sav) ≡ 160) × (length (now prev) ≡ 160) ⌝ }
+    ensures { λ _. ⌜ now (prev .exit) ≡ u ∷ take 159 (now (sav .entry)) ⌝ }
+{
+    prev[0] = u;
+    for k in 1..160usize {
+        prev[k] = sav[k - 1];
+    }
+}
+
+// di and sav become those that a section hands on, from its coefficient and its cell at each of the 160 samples.
+fn section(rp: &[i16], prev: &[i16], di: &mut [i16], sav: &mut [i16])
+    requires { ⌜ ((length (now rp) ≡ 160) × (length (now prev) ≡ 160)) × ((length (now di) ≡ 160) × ((length (now sav) ≡ 160) × (every not-least (now rp) ≡ true))) ⌝ }
+    ensures di { λ _. ⌜ now (di .exit) ≡ further (now (rp .entry)) (now (prev .entry)) (now (di .entry)) ⌝ }
+    ensures sav { λ _. ⌜ now (sav .exit) ≡ saved (now (rp .entry)) (now (prev .entry)) (now (di .entry)) ⌝ }
+{
+    for k in 0..160usize {
+        let r = rp[k];
+        let p = prev[k];
+        let d = di[k];
+        let out = words::add(d, term(r, p));
+        di[k] = out;
+        sav[k] = words::add(p, term(r, d));
+    }
+}
+
+// A section over the 160 samples, from its coefficient at each and its cell: what it hands on, and its new cell. prev is room for 160.
+fn stage(rp: &[i16], u: i16, prev: &mut [i16], di: &mut [i16], sav: &mut [i16]) -> i16
+    requires { ⌜ ((length (now rp) ≡ 160) × (length (now prev) ≡ 160)) × ((length (now di) ≡ 160) × ((length (now sav) ≡ 160) × (every not-least (now rp) ≡ true))) ⌝ }
+    ensures di { λ _. ⌜ now (di .exit) ≡ stage 159 (now (di .entry), now (sav .entry)) (now (rp .entry), u) .0 .0 ⌝ }
+    ensures sav { λ _. ⌜ now (sav .exit) ≡ stage 159 (now (di .entry), now (sav .entry)) (now (rp .entry), u) .0 .1 ⌝ }
+    ensures u { λ r. ⌜ r ≡ stage 159 (now (di .entry), now (sav .entry)) (now (rp .entry), u) .1 ⌝ }
+{
+    delayed(u, sav, prev);
+    let last = sav[159];
+    section(rp, prev, di, sav);
+    last
+}
+
+// Room for 160 samples.
+fn none() -> [i16; 160]
+    ensures { λ r. ⌜ r ≡ replicate 160 (pos 0) ⌝ }
+{
+    [0; 160]
+}
+
+// sav starts as di does.
+fn copied(s: &[i16]) -> [i16; 160]
+    requires { ⌜ length (now s) ≡ 160 ⌝ }
+    ensures { λ r. ⌜ r ≡ now (s .entry) ⌝ }
+{
+    let mut sav = [0i16; 160];
+    for k in 0..160usize {
+        sav[k] = s[k];
+    }
+    sav
+}
+
+// The 160 samples of s become those of d. u[0..7] are the cells; old and new the ratios of the frame before and of this one.
+pub fn filtered(u: [i16; 8], old: [i16; 8], new: [i16; 8], s: &mut [i16]) -> [i16; 8]
+    requires { ⌜ length (now s) ≡ 160 ⌝ }
+    ensures u { λ r. ⌜ r ≡ run analysed u (zip (coefficients old new) (now (s .entry))) .0 ⌝ }
+    ensures d { λ r. ⌜ now (s .exit) ≡ run analysed u (zip (coefficients old new) (now (s .entry))) .1 ⌝ }
+{
+    let first = shortterm::coefficients(0, old, new);
+    let second = shortterm::coefficients(1, old, new);
+    let third = shortterm::coefficients(2, old, new);
+    let fourth = shortterm::coefficients(3, old, new);
+    let mut sav = copied(s);
+    let mut prev = none();
+    let mut rp = none();
+    let mut after = [0i16; 8];
+    for i in 0..8usize {
+        spread(first[i], second[i], third[i], fourth[i], &mut rp[0..160]);
+        after[i] = stage(&rp[0..160], u[i], &mut prev[0..160], s, &mut sav[0..160]);
+    }
+    after
+}
