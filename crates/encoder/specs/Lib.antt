@@ -1,1 +1,5 @@
 pub mod Promise
+pub mod Marks
+pub mod Soundness
+pub mod Subframes
+pub mod Whole

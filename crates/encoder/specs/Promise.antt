@@ -2,7 +2,7 @@
 use Prim.Native.Nat.{ℕ, suc}
 use mathlib.Core.Path.{_≡_, refl, sym, ap, _∙_}
 use mathlib.Core.Option.{Option, none, some}
-use mathlib.Core.List.{List, [], _∷_}
+use mathlib.Core.List.{List, [], _∷_, map}
 use lib.IntN.{ℤ}
 use lib.ListN.{getD}
 use Rattle.encoder.specs.declared.Encoder.{Encoder}
@@ -13,11 +13,12 @@ use Rattle.encoder.specs.declared.Mark.the-variants as Mark-of
 use Rattle.encoder.specs.declared.Marks.{Marks}
 use Rattle.encoder.specs.declared.Encoded.{Encoded}
 use Rattle.standard.specs.Lpc as lpc
-use Rattle.standard.specs.Coder.{Coder}
+use Rattle.standard.specs.Frame.{words}
+use Rattle.standard.specs.Coder.{Coder, coded, frame}
 use Rattle.standard.specs.House as house
 use Rattle.standard.specs.House.{encode-refusal}
 use Rattle.standard.specs.Answers as answers
-use Rattle.refusals.specs.Calls.{encode-refused}
+use Rattle.refusals.specs.Calls.{encode-refused, encode-done}
 
 -- ---- what the types stand for
 
@@ -140,3 +141,14 @@ module _ (e : Encoder) (samples lent : List ℤ) (n : ℕ) (h : encode-refusal (
   -- and no other does
   pub one-refusal : (a : Encoded) (left : List ℤ) → Encodes e samples lent a left → (a ≡ refused (suc n) e) × (left ≡ lent)
   one-refusal a left p = one-outcome e samples lent a (refused (suc n) e) left lent p refusal-keeps
+
+-- ---- what it says of a frame that is coded
+
+module _ (e : Encoder) (samples lent : List ℤ) (h : encode-refusal (coder e) samples lent ≡ 0) where
+  -- an answer and codewords that are the standard's keep the promise
+  pub done-keeps : (s : Encoder) (n : Ending) (m : Marks) (left : List ℤ) → let t = coded (coder e) samples in
+      coder s ≡ t .0 → ending n ≡ some (t .1 .ending) → marks m ≡ map (λ x. some (house.mark x)) (t .1 .subframes) → left ≡ words (frame (t .1))
+      → Encodes e samples lent (record { number = 0; state = s; ending = n; marks = m }) left
+  done-keeps s n m left p q r w =
+      let d = encode-done (coder e) samples lent h in
+      record { number = rw d; state = rw d p; ending = rw d q; marks = rw d r; codewords = rw d w }

@@ -1,4 +1,26 @@
-// The encoder's state and what encode answers: the types that its promise (specs/Promise.antt) speaks of.
+// The encoder: its state, home, and encode, which is the whole of 4.2 behind the refusals of 01. What encode promises is in
+// specs/Promise.antt.
+use analysis::Filters;
+use reflection::Ending as Ended;
+ghost use mathlib.Core.Path.{_≡_};
+ghost use mathlib.Core.Bool.{true, cond, _&&_};
+ghost use mathlib.Core.Option.{some};
+ghost use mathlib.Core.List.{_++_};
+ghost use Prim.Native.Nat.{_*_, _≤_};
+ghost use lib.Dec.{eqb};
+ghost use lib.IntN.{pos, natAbs};
+ghost use lib.ListN.{length, take, replicate};
+ghost use Rattle.standard.specs.Arithmetic.{is-zero, within};
+ghost use Rattle.standard.specs.Frame.{sub-words, words};
+ghost use Rattle.standard.specs.Coder as standard;
+ghost use Rattle.standard.specs.House as house;
+ghost use Rattle.reflection.specs.Promise.{ended};
+ghost use Rattle.subframe.specs.Whole.{added};
+ghost use Rattle.encoder.specs.Promise.{coder, ending, mark, marks, Encodes, refused};
+ghost use Rattle.lists.specs.Parts.{put};
+ghost use Rattle.encoder.specs.Marks.{mark-by};
+ghost use Rattle.encoder.specs.Subframes.{own, before, four-added, four-words, four-marks};
+ghost use Rattle.encoder.specs.Whole.{coded-marks};
 
 // 4.2: what is kept for the next frame. dp holds the residual's last 120 samples, the oldest first.
 pub struct Encoder {
@@ -39,4 +61,200 @@ pub struct Encoded {
     pub state: Encoder,
     pub ending: Ending,
     pub marks: Marks,
+}
+
+// What is made of a frame, beside its codewords.
+struct Coded {
+    state: Encoder,
+    ending: Ending,
+    marks: Marks,
+}
+
+fn between(least: i32, most: i32, z: i32) -> bool
+    ensures { λ r. ⌜ r ≡ within least most z ⌝ }
+{
+    least <= z && z <= most
+}
+
+// 01: a state may be handed in when z1 and the distance of L_z2 from 32768 times z1 are in their ranges.
+fn sound(e: Encoder) -> bool
+    ensures { λ r. ⌜ r ≡ house.sound-coder (coder e) ⌝ }
+{
+    let z1 = e.z1 as i32;
+    let centre = z1 * 32768;
+    between(-16384, 16380, z1) && between(centre - 536740337, centre + 536871409, e.l_z2)
+}
+
+// 01's lag mark.
+fn marked(nc: i16, bc: i16) -> Mark
+    ensures { λ r. ⌜ mark r ≡ some (mark-by nc bc) ⌝ }
+{
+    if nc == 40 {
+        if bc == 0 {
+            return Mark::Rule;
+        }
+    }
+    Mark::Found
+}
+
+// The recursion's ending, as encode answers it.
+fn answered(e: Ended) -> Ending
+    ensures { λ r. ⌜ ending r ≡ some (ended e) ⌝ }
+{
+    match e {
+        Ended::Silent => Ending::Silent,
+        Ended::Stopped(n) => Ending::Stopped(n),
+        Ended::Complete => Ending::Complete,
+    }
+}
+
+// Sub-frame n, from 0 to 3, with its mark. It is lent all of d and of the history, reads its own 40 of d and 120 of dp, and adds 40 to dp.
+fn sub_frame(n: usize, d: &[i16], dp: &mut [i16], c: &mut [i16]) -> Mark
+    requires { ⌜ ((n ≤ 3) × (length (now d) ≡ 160)) × ((length (now dp) ≡ 280) × (length (now c) ≡ 17)) ⌝ }
+    ensures mark { λ r. ⌜ mark r ≡ some (house.mark (standard.sub-coded (before n (now (dp .entry))) (own n (now (d .entry))))) ⌝ }
+    ensures codewords { λ r. ⌜ now (c .exit) ≡ sub-words (standard.sub-coded (before n (now (dp .entry))) (own n (now (d .entry))) .codes) ⌝ }
+    ensures history { λ r. ⌜ now (dp .exit) ≡ put (40 * n) 160 (now (dp .entry)) (before n (now (dp .entry)) ++ added (before n (now (dp .entry))) (own n (now (d .entry)))) ⌝ }
+{
+    let a = 40 * n;
+    subframe::sub_coded(&d[a..a + 40], &mut dp[a..a + 160], c);
+    marked(c[0], c[1])
+}
+
+// The four sub-frames, each after what stands in dp by then; each is lent the 17 codewords that it fills.
+fn sub_frames(d: &[i16], dp: &mut [i16], codewords: &mut [i16]) -> Marks
+    requires { ⌜ (length (now d) ≡ 160) × ((length (now dp) ≡ 280) × (length (now codewords) ≡ 76)) ⌝ }
+    ensures marks { λ r. ⌜ marks r ≡ four-marks (take 120 (now (dp .entry))) (now (d .entry)) ⌝ }
+    ensures codewords { λ r. ⌜ now (codewords .exit) ≡ take 8 (now (codewords .entry)) ++ four-words (take 120 (now (dp .entry))) (now (d .entry)) ⌝ }
+    ensures history { λ r. ⌜ now (dp .exit) ≡ four-added (take 120 (now (dp .entry))) (now (d .entry)) ⌝ }
+{
+    let first = sub_frame(0, d, dp, &mut codewords[8..25]);
+    let second = sub_frame(1, d, dp, &mut codewords[25..42]);
+    let third = sub_frame(2, d, dp, &mut codewords[42..59]);
+    let fourth = sub_frame(3, d, dp, &mut codewords[59..76]);
+    Marks {
+        first: first,
+        second: second,
+        third: third,
+        fourth: fourth,
+    }
+}
+
+// LARc[1..8] are the first eight codewords.
+fn ratios(larc: [i16; 8], c: &mut [i16])
+    requires { ⌜ length (now c) ≡ 8 ⌝ }
+    ensures { λ _. ⌜ now (c .exit) ≡ larc ⌝ }
+{
+    for i in 0..8usize {
+        c[i] = larc[i];
+    }
+}
+
+// Room for d.
+fn room() -> [i16; 160]
+    ensures { λ r. ⌜ r ≡ replicate 160 (pos 0) ⌝ }
+{
+    [0; 160]
+}
+
+// 4.2, the whole: 160 samples, 76 codewords, and what is said of them.
+fn frame(e: Encoder, samples: &[i16], codewords: &mut [i16]) -> Coded
+    requires { ⌜ (length (now samples) ≡ 160) × ((length (now codewords) ≡ 76) × (house.sound-coder (coder e) ≡ true)) ⌝ }
+    ensures state { λ r. ⌜ coder (r .state) ≡ standard.coded (coder e) (now (samples .entry)) .0 ⌝ }
+    ensures ending { λ r. ⌜ ending (r .ending) ≡ some (standard.coded (coder e) (now (samples .entry)) .1 .ending) ⌝ }
+    ensures marks { λ r. ⌜ marks (r .marks) ≡ coded-marks (coder e) (now (samples .entry)) ⌝ }
+    ensures codewords { λ r. ⌜ now (codewords .exit) ≡ words (standard.frame (standard.coded (coder e) (now (samples .entry)) .1)) ⌝ }
+{
+    let larpp = e.larpp;
+    let u = e.u;
+    let before = e.dp;
+    let mut d = room();
+    let a = analysis::frame(
+        Filters {
+            z1: e.z1,
+            l_z2: e.l_z2,
+            mp: e.mp,
+            larpp: larpp,
+            u: u,
+        },
+        samples,
+        &mut d[0..160],
+    );
+    let next = a.next;
+    let larc = a.larc;
+    let how = a.ending;
+    ratios(larc, &mut codewords[0..8]);
+    let mut dp = history::remembered(before);
+    let marks = sub_frames(&d[0..160], &mut dp[0..280], codewords);
+    let new = next.larpp;
+    let after = next.u;
+    Coded {
+        state: Encoder {
+            z1: next.z1,
+            l_z2: next.l_z2,
+            mp: next.mp,
+            larpp: new,
+            u: after,
+            dp: history::last(&dp[160..280]),
+        },
+        ending: answered(how),
+        marks: marks,
+    }
+}
+
+// A refusal: the number, the state as handed in, no ending and no marks.
+fn refuse(number: u8, e: Encoder) -> Encoded
+    ensures { λ r. ⌜ r ≡ refused number e ⌝ }
+{
+    Encoded {
+        number: number,
+        state: e,
+        ending: Ending::Absent,
+        marks: Marks {
+            first: Mark::Absent,
+            second: Mark::Absent,
+            third: Mark::Absent,
+            fourth: Mark::Absent,
+        },
+    }
+}
+
+impl Encoder {
+    // Every carried value 0.
+    pub fn home() -> Encoder
+        ensures { λ r. ⌜ coder r ≡ house.home-coder ⌝ }
+    {
+        Encoder {
+            z1: 0,
+            l_z2: 0,
+            mp: 0,
+            larpp: [0; 8],
+            u: [0; 8],
+            dp: [0; 120],
+        }
+    }
+
+    // The 76 codewords of 160 samples, of which the low 3 bits are ignored.
+    pub fn encode(self, samples: &[i16], codewords: &mut [i16]) -> Encoded
+        ensures { λ r. ⌜ Encodes self (now (samples .entry)) (now (codewords .entry)) r (now (codewords .exit)) ⌝ }
+    {
+        if samples.len() != 160 {
+            return refuse(1, self);
+        }
+        if codewords.len() != 76 {
+            return refuse(2, self);
+        }
+        if !sound(self) {
+            return refuse(3, self);
+        }
+        let coded = frame(self, samples, codewords);
+        let state = coded.state;
+        let ending = coded.ending;
+        let marks = coded.marks;
+        Encoded {
+            number: 0,
+            state: state,
+            ending: ending,
+            marks: marks,
+        }
+    }
 }

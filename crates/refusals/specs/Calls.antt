@@ -1,17 +1,17 @@
 -- 01, 'Refusal numbers', of the four calls: each number exactly when; and what a refusal hands back.
 use mathlib.Core.Path.{_≡_, refl}
-use mathlib.Core.Option.{none}
-use mathlib.Core.List.{List}
+use mathlib.Core.Option.{none, some}
+use mathlib.Core.List.{List, map}
 use Prim.Native.Nat.{ℕ, suc}
 use lib.Dec.{eqb}
 use lib.IntN.{ℤ}
 use lib.ListN.{replicate}
 use Rattle.lists.specs.Every.{every}
-use Rattle.standard.specs.Coder.{Coder}
-use Rattle.standard.specs.Frame.{received}
+use Rattle.standard.specs.Coder.{Coder, coded, frame}
+use Rattle.standard.specs.Frame.{words, received}
 use Rattle.standard.specs.Decoder.{Decoder, decoded}
 use Rattle.standard.specs.Packed.{packed, unpacked, spare}
-use Rattle.standard.specs.House.{sound-coder, sound-decoder, fits, encode-refusal, decode-refusal, pack-refusal, unpack-refusal}
+use Rattle.standard.specs.House.{mark, sound-coder, sound-decoder, fits, encode-refusal, decode-refusal, pack-refusal, unpack-refusal}
 use Rattle.standard.specs.Answers.{answer, Encoded, encode, Decoded, decode, Packed, pack, Unpacked, unpack}
 use Rattle.refusals.specs.Rows.{Exactly, three, answer-number}
 
@@ -25,6 +25,13 @@ module _ (c : Coder) (s w : List ℤ) where
   pub encode-number : encode c s w .number ≡ encode-refusal c s w
   unfolding encode
   encode-number = answer-number (λ (r : Encoded). r .number) (encode-refusal c s w) refl (λ k. refl)
+
+  -- what is not refused is coded
+  pub encode-done : encode-refusal c s w ≡ 0 → let t = coded c s in
+      encode c s w
+      ≡ record { number = 0; state = t .0; ending = some (t .1 .ending); marks = map (λ x. some (mark x)) (t .1 .subframes); codewords = words (frame (t .1)) }
+  unfolding encode answer
+  encode-done e = rw e
 
   -- refused: the state as handed in, no ending, no marks, the codewords that were there
   pub encode-refused : (n : ℕ) → encode-refusal c s w ≡ suc n

@@ -1,0 +1,16 @@
+use Rattle.integers.specs.Ranges.{back}
+use Rattle.encoder.proofs.between.Statement.{statement}
+use Rattle.encoder.proofs.between.Tie as tie
+
+returns : tie.Need-returns
+returns c =
+    let s = c .before in
+    rw (back (s .fits .z), back (s .fits .most), rw (back (s .fits .z), back (s .fits .least)) at (c .if1 .taken))
+
+returns-2 : tie.Need-returns-2
+returns-2 c =
+    let s = c .before in
+    rw (back (s .fits .z), back (s .fits .least), rw (back (s .fits .z), back (s .fits .least)) at (c .if1 .left))
+
+pub between-spec : {M : Type 1} → statement M
+between-spec = tie.close (tie.spec returns returns-2)

@@ -1,0 +1,193 @@
+use Prim.Native.Nat.{_≤_}
+use mathlib.Core.Path.{_≡_, refl, sym, ap, ap₂, _∙_}
+use mathlib.Core.Option.{some}
+use mathlib.Core.List.{List, _++_}
+use native.Mathlib.Omega.{arith}
+use lib.IntN.{ℤ, pos}
+use lib.ListN.{length, take, drop, replicate, length-append, length-replicate, length-drop}
+use lib.Seq.{take-at, take-take, take-all, drop-append-le}
+use mir.Syntax.{w16, w32}
+use mir.Val.{SFits}
+use borrow.Author.Needs.{needs}
+use Rattle.integers.specs.Ranges.{back}
+use Rattle.standard.specs.Lpc as lpc
+use Rattle.standard.specs.Coder.{Coder, analysis}
+use Rattle.standard.specs.House.{sound-coder}
+use Rattle.lengths.specs.Analysis.{analysis-codes-length, analysis-d-length}
+use Rattle.reflection.specs.Promise.{ended}
+use Rattle.analysis.specs.Whole.{coder-of}
+use Rattle.encoder.specs.Promise.{coder, marks}
+use Rattle.encoder.specs.Subframes.{dp₄, four-words, four-marks, four-added, four-length, four-last}
+use Rattle.encoder.specs.Whole.{unseen, with-history, state-is, ending-is, marks-are, words-are}
+use Rattle.encoder.proofs.frame.Statement.{statement}
+use Rattle.encoder.proofs.frame.Tie as tie
+
+-- the state and the samples that it starts from
+module _ (s : tie.Start) where
+  abbrev c-of : Coder
+  c-of = coder (s .args .e)
+
+  abbrev sop : List ℤ
+  sop = s .args .samples .now
+
+  abbrev d-of : List ℤ
+  d-of = analysis (unseen c-of) sop .d
+
+  z1-fits : SFits w16 (s .args .e .z1)
+  z1-fits = search needs
+
+  l-z2-fits : SFits w32 (s .args .e .«l_z2»)
+  l-z2-fits = search needs
+
+  mp-fits : SFits w16 (s .args .e .mp)
+  mp-fits = search needs
+
+  history : length (s .args .e .dp) ≡ 120
+  history = search needs
+
+  d-length : length d-of ≡ 160
+  d-length = analysis-d-length (unseen c-of) sop ∙ omega (arith, s .pre .0)
+
+frame-requires : tie.Need-frame-requires
+unfolding coder sound-coder
+frame-requires c κs =
+    let s = c .before .before .before .before .before .before in
+    (s .pre .0, (ap length (ap (take 160) (c .before .before .room .ensures)), rw (back (z1-fits s), back (l-z2-fits s)) (s .pre .1 .1)))
+
+-- 4.2.0 to 4.2.10
+module _ (t : tie.After-frame) where
+  abbrev start : tie.Start
+  start = t .before .before .before .before .before .before .before
+
+  next-is : coder-of (t .frame .result .next) ≡ analysis (unseen (c-of start)) (sop start) .next
+  unfolding coder
+  next-is = rw (back (z1-fits start), back (l-z2-fits start), back (mp-fits start)) at (t .frame .ensures .0)
+
+  larc-is : t .frame .result .larc ≡ analysis (unseen (c-of start)) (sop start) .LARc
+  unfolding coder
+  larc-is = rw (back (z1-fits start), back (l-z2-fits start), back (mp-fits start)) at (t .frame .ensures .1 .0)
+
+  how-is : ended (t .frame .result .ending) ≡ analysis (unseen (c-of start)) (sop start) .ending
+  unfolding coder
+  how-is = rw (back (z1-fits start), back (l-z2-fits start), back (mp-fits start)) at (t .frame .ensures .1 .1 .0)
+
+  d-is : t .frame .last .1 .1 .0 ≡ d-of start
+  unfolding coder
+  d-is = rw (back (z1-fits start), back (l-z2-fits start), back (mp-fits start)) at (t .frame .ensures .1 .1 .1)
+
+  z1-after : SFits w16 (t .frame .result .next .z1)
+  z1-after = search needs
+
+  l-z2-after : SFits w32 (t .frame .result .next .«l_z2»)
+  l-z2-after = search needs
+
+  mp-after : SFits w16 (t .frame .result .next .mp)
+  mp-after = search needs
+
+  -- d as the sub-frames read it, in the front of the room that was lent
+  d-back : (rest : List ℤ) → take 160 (t .frame .last .1 .1 .0 ++ rest) ≡ d-of start
+  d-back rest = take-at _ rest 160 (ap length d-is ∙ d-length start) ∙ d-is
+
+  d-room : (rest : List ℤ) → 160 ≤ length (t .frame .last .1 .1 .0 ++ rest)
+  d-room rest = omega (arith, length-append (t .frame .last .1 .1 .0) rest, ap length d-is, d-length start)
+
+-- 4.2.11 to 4.2.18
+module _ (q : tie.After-sub-frames) where
+  abbrev kept : tie.After-remembered
+  kept = q .before .before .before .before .before
+
+  abbrev coded : tie.After-ratios
+  coded = kept .before .before
+
+  abbrev found : tie.After-frame
+  found = coded .before .before .before .before .before
+
+  abbrev begun : tie.Start
+  begun = start found
+
+  -- the history as the sub-frames read it
+  dp-lent : take 120 (take 280 (kept .remembered .result)) ≡ begun .args .e .dp
+  dp-lent =
+      let h = begun .args .e .dp in
+      let z = replicate 160 (pos 0) in
+      ap (λ (y : List ℤ). take 120 (take 280 y)) (kept .remembered .ensures)
+      ∙ (take-take 120 280 (h ++ z) (omega arith) ∙ take-at h z 120 (history begun))
+
+  -- the codes of the ratios in front of the codewords
+  larc-lent : (rest : List ℤ) → take 8 (coded .ratios .last .1 .0 ++ rest) ≡ found .frame .result .larc
+  larc-lent rest =
+      let l = ap length (larc-is found) ∙ analysis-codes-length (unseen (c-of begun)) (sop begun) in
+      take-at _ rest 8 (ap length (coded .ratios .ensures) ∙ l) ∙ coded .ratios .ensures
+
+  marks-given : marks (q .sub-frames .result) ≡ four-marks (begun .args .e .dp) (d-of begun)
+  marks-given = q .sub-frames .ensures .0 ∙ ap₂ four-marks dp-lent (d-back found _)
+
+  words-given : q .sub-frames .last .1 .1 .0 ≡ found .frame .result .larc ++ four-words (begun .args .e .dp) (d-of begun)
+  words-given = q .sub-frames .ensures .1 .0 ∙ ap₂ _++_ (larc-lent _) (ap₂ four-words dp-lent (d-back found _))
+
+  added-given : q .sub-frames .last .1 .0 ≡ four-added (begun .args .e .dp) (d-of begun)
+  added-given = q .sub-frames .ensures .1 .1 ∙ ap₂ four-added dp-lent (d-back found _)
+
+  -- 280 samples, of which the last 120 are kept
+  added-length : length (q .sub-frames .last .1 .0) ≡ 280
+  added-length = ap length added-given ∙ four-length (begun .args .e .dp) (d-of begun) (history begun)
+
+  added-room : (rest : List ℤ) → 280 ≤ length (q .sub-frames .last .1 .0 ++ rest)
+  added-room rest = omega (arith, length-append (q .sub-frames .last .1 .0) rest, added-length)
+
+  last-kept : (rest : List ℤ) → take 120 (drop 160 (q .sub-frames .last .1 .0 ++ rest)) ≡ dp₄ (begun .args .e .dp) (d-of begun)
+  last-kept rest =
+      let y = q .sub-frames .last .1 .0 in
+      rw (drop-append-le 160 y rest (omega (arith, added-length)))
+      (take-at (drop 160 y) rest 120 (rw length-drop (omega (arith, added-length)))
+      ∙ (ap (drop 160) added-given ∙ four-last (begun .args .e .dp) (d-of begun) (history begun)))
+
+returns : tie.Need-returns
+unfolding coder
+returns c =
+    let n = c .before .before in
+    let q = n .before .before .before .before .before .before .before in
+    let t = found q in
+    let s = begun q in
+    let m = c-of s in
+    let l = d-length s in
+    let dp-is = n .last .ensures ∙ last-kept q _ in (
+      rw (back (z1-after t), back (l-z2-after t), back (mp-after t))
+          (ap (with-history (coder-of (t .frame .result .next))) dp-is ∙ state-is m (sop s) (next-is t) (larc-is t) (how-is t) refl l),
+      (
+        c .answered .ensures ∙ ap some (ending-is m (sop s) (next-is t) (larc-is t) (how-is t) refl l),
+        (
+          marks-given q ∙ marks-are m (sop s) (next-is t) (larc-is t) (how-is t) refl l,
+          words-given q ∙ words-are m (sop s) (next-is t) (larc-is t) (how-is t) refl l,
+        ),
+      ),
+    )
+
+pub frame-spec : {M : Type 1} → statement M
+frame-spec =
+    tie.close
+    (tie.spec
+    (λ c κs. search needs)
+    (λ c. search needs)
+    (λ c. search needs)
+    (λ c. search needs)
+    frame-requires
+    (λ c. search needs)
+    (λ c. search needs)
+    (λ c. search needs)
+    (λ c κs. search needs)
+    (λ c κs. search needs)
+    (λ c. search needs)
+    (λ c. search needs)
+    (λ c. let h = d-room (c .before .before .before .before .before .before .before .before) in search (needs, h))
+    (λ c. search needs)
+    (λ c. search needs)
+    (λ c. search needs)
+    (λ c κs. search needs)
+    (λ c. search needs)
+    (λ c. search needs)
+    (λ c. let h = added-room (c .before .before .before .before .before) in search (needs, h))
+    (λ c κs. search needs)
+    (λ c κs. search needs)
+    (λ c. search needs)
+    returns)

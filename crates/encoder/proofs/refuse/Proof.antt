@@ -1,0 +1,8 @@
+use mathlib.Core.Path.{refl}
+use Rattle.encoder.specs.Promise.{refused}
+use Rattle.encoder.proofs.refuse.Statement.{statement}
+use Rattle.encoder.proofs.refuse.Tie as tie
+
+pub refuse-spec : {M : Type 1} → statement M
+unfolding refused
+refuse-spec = tie.close (tie.spec (λ c. refl))

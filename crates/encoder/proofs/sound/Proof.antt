@@ -1,0 +1,84 @@
+use mathlib.Core.Path.{_≡_, refl, sym, ap, _∙_}
+use mathlib.Core.Bool.{true, false}
+use native.Mathlib.Omega.{arith}
+use lib.IntN.{ℤ, pos, _+ℤ_, _-ℤ_, _*ℤ_, *ℤ-comm}
+use mir.Syntax.{w16, w32}
+use mir.Val.{SFits}
+use borrow.Author.Needs.{needs}
+use Rattle.integers.specs.Halves.{zar, know, mem}
+use Rattle.integers.specs.Sums.{add-is, minus-is, scale-is}
+use Rattle.integers.specs.Ranges.{wide, back}
+use Rattle.standard.specs.Arithmetic.{within}
+use Rattle.standard.specs.Tables.{neg}
+use Rattle.standard.specs.House.{sound-coder}
+use Rattle.encoder.specs.Promise.{coder}
+use Rattle.encoder.specs.Soundness.{moved}
+use Rattle.encoder.proofs.sound.Statement.{statement}
+use Rattle.encoder.proofs.sound.Tie as tie
+
+-- the two that are tested
+module _ (s : tie.Start) where
+  abbrev z1 : ℤ
+  z1 = s .args .e .z1
+
+  abbrev centre : ℤ
+  centre = z1 *ℤ pos 32768
+
+  z1-fits : SFits w16 z1
+  z1-fits = search needs
+
+  l-z2-fits : SFits w32 (s .args .e .«l_z2»)
+  l-z2-fits = search needs
+
+  z1-is : mem w32 (mem w16 z1) ≡ z1
+  z1-is = rw (back z1-fits) (back (wide z1-fits tt))
+
+  centre-fits : SFits w32 centre
+  centre-fits = omega (zar, know z1-fits, scale-is z1 32768)
+
+  least-fits : SFits w32 (centre -ℤ pos 536740337)
+  least-fits = omega (zar, know z1-fits, scale-is z1 32768, minus-is centre (pos 536740337))
+
+  most-fits : SFits w32 (centre +ℤ pos 536871409)
+  most-fits = omega (zar, know z1-fits, scale-is z1 32768, add-is centre (pos 536871409))
+
+cast-z1 : tie.Need-cast-z1
+cast-z1 c = let s = c .before .before in rw (back (z1-fits s)) (wide (z1-fits s) tt)
+
+mul-centre : tie.Need-mul-centre
+mul-centre c = let s = c .before .before in rw (z1-is s) (centre-fits s)
+
+sub-between : tie.Need-sub-between
+sub-between c = let s = c .before .before .before .before in rw (z1-is s, back (centre-fits s)) (least-fits s)
+
+add-between : tie.Need-add-between
+add-between c = let s = c .before .before .before .before in rw (z1-is s, back (centre-fits s)) (most-fits s)
+
+-- the first test
+z1-test : (a : tie.After-between) → let s = a .before .before .before in a .between .result ≡ within (neg 16384) (pos 16380) (z1 s)
+z1-test a = a .between .ensures ∙ ap (within (neg 16384) (pos 16380)) (z1-is (a .before .before .before))
+
+-- and the second
+l-z2-test : (c : tie.After-between2) → let s = c .before .before .before .before .before .before in
+    c .between2 .result ≡ within (neg 536740337) (pos 536871409) (s .args .e .«l_z2» -ℤ pos 32768 *ℤ z1 s)
+l-z2-test c =
+    let s = c .before .before .before .before .before .before in
+    rw (z1-is s, back (centre-fits s), back (least-fits s), back (most-fits s), back (l-z2-fits s)) at (c .between2 .ensures)
+    ∙ (moved 536740337 536871409 (centre s) (s .args .e .«l_z2») ∙ ap (λ (x : ℤ). within (neg 536740337) (pos 536871409) (s .args .e .«l_z2» -ℤ x)) (*ℤ-comm (z1 s) (pos 32768)))
+
+returns : tie.Need-returns
+unfolding coder sound-coder
+returns c =
+    let t = c .before .before in
+    let first : within (neg 16384) (pos 16380) (z1 (t .before .before .before .before)) ≡ true = sym (z1-test (t .before)) ∙ t .if1 .taken in
+    rw first (l-z2-test c)
+
+returns-2 : tie.Need-returns-2
+unfolding coder sound-coder
+returns-2 c =
+    let a = c .before in
+    let first : within (neg 16384) (pos 16380) (z1 (a .before .before .before)) ≡ false = sym (z1-test a) ∙ c .if1 .left in
+    rw first (c .if1 .left)
+
+pub sound-spec : {M : Type 1} → statement M
+sound-spec = tie.close (tie.spec cast-z1 mul-centre (λ c κs. search needs) sub-between add-between (λ c κs. search needs) returns returns-2)
