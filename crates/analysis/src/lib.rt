@@ -70,6 +70,7 @@ pub fn frame(m: Filters, sop: &[i16], d: &mut [i16]) -> Analysed
     ensures ending { λ t. ⌜ ended (t .ending) ≡ analysis (coder-of m) (now (sop .entry)) .ending ⌝ }
     ensures samples { λ t. ⌜ now (d .exit) ≡ analysis (coder-of m) (now (sop .entry)) .d ⌝ }
 {
+    let last = m.mp;
     let old = m.larpp;
     let u = m.u;
     let mut sof = room();
@@ -81,7 +82,7 @@ pub fn frame(m: Filters, sop: &[i16], d: &mut [i16]) -> Analysed
         sop,
         &mut sof[0..160],
     );
-    let mp = preprocess::emphasis(m.mp, &sof[0..160], d);
+    let mp = preprocess::emphasis(last, &sof[0..160], d);
     let ratios = measured(d);
     let larc = ratios.larc;
     let ending = ratios.ending;

@@ -10,36 +10,28 @@ use lib.IntN.{ℤ, pos, _+ℤ_, _-ℤ_, _*ℤ_, natAbs}
 use lib.ListN.{length}
 use lib.Pow.{pow-add, pow-mono, pow-pos, shl-shr}
 use lib.Signed.{ltZ, leZ}
-use mir.Syntax.{w16, w32}
+use mir.Syntax.{w16}
 use mir.Val.{SFits}
 use borrow.Author.Tests.{ne-eqb}
 use Rattle.integers.specs.Halves.{P, N, apart, zar, know, either, le-or-lt, abs-is}
 use Rattle.integers.specs.Sums.{add-is, minus-is, scale-is, mul-in, shr-is}
 use Rattle.lists.specs.Every.{every, every-at}
 use Rattle.lists.specs.Tab.{map-at}
-use Rattle.standard.specs.Arithmetic.{keep, modulo, up, _>>_, shl, shr, sub, mult-r, norm, peak}
+use Rattle.standard.specs.Arithmetic.{keep, modulo, _>>_, shl, shr, sub, mult-r, norm, peak}
 use Rattle.standard.specs.Tables.{neg, _at_}
 use Rattle.standard.specs.Lpc.{scalauto, scaled}
-use Rattle.arithmetic.specs.Within.{word, word-is, range-is}
+use Rattle.arithmetic.specs.Within.{word, word-is}
 use Rattle.arithmetic.specs.Clip.{minus-plain, abs-clip}
-use Rattle.arithmetic.specs.Shift.{keep-plain, shl-exact}
+use Rattle.arithmetic.specs.Shift.{shl-exact}
 use Rattle.arithmetic.specs.Product.{mult-r-in, mult-r-plain}
 use Rattle.arithmetic.specs.Norm.{normal}
-use Rattle.fields.specs.Amplitudes.{peak-in, peak-covers}
+use Rattle.fields.specs.Amplitudes.{peak-halves, peak-up, peak-covers}
 
 -- ---- smax
 
--- the largest size is from 0 to 32767
-pub smax-in : (s : List ℤ) → (P (peak s) ≤ 32767) × (N (peak s) ≤ 0)
-smax-in s = range-is 0 32767 (peak s) (peak-in s)
-
 -- no sample has a larger size, but −32768, whose size is taken for 32767
 pub smax-covers : (s : List ℤ) (i : ℕ) → i < length s → min (natAbs (s at i)) 32767 ≤ P (peak s)
-smax-covers s i l = omega (zar, abs-clip (s at i), peak-covers s i l, smax-in s)
-
--- scalauto's own shift of it, left by 16, loses nothing
-pub smax-shifted : (s : List ℤ) → up w32 (peak s) 16 ≡ peak s *ℤ pos 65536
-smax-shifted s = keep-plain (omega (zar, smax-in s, scale-is (peak s) 65536))
+smax-covers s i l = omega (zar, abs-clip (s at i), peak-covers s i l, peak-halves s)
 
 -- silence has the scale 0
 pub scale-silent : (s : List ℤ) → peak s ≡ pos 0 → scalauto s ≡ pos 0
@@ -50,7 +42,7 @@ scale-silent s e = rw e
 pub scale-heard : (s : List ℤ) → ltZ (pos 0) (peak s) ≡ true → scalauto s ≡ sub (pos 4) (norm (peak s *ℤ pos 65536))
 unfolding scalauto
 scale-heard s h =
-    rw (ne-eqb (natAbs (peak s)) 0 (omega (zar, abs-is (peak s)))) (ap (λ (z : ℤ). sub (pos 4) (norm z)) (smax-shifted s))
+    rw (ne-eqb (natAbs (peak s)) 0 (omega (zar, abs-is (peak s)))) (ap (λ (z : ℤ). sub (pos 4) (norm z)) (peak-up s))
 
 -- ---- the scales
 
@@ -74,7 +66,7 @@ pub scale-cases : (s : List ℤ) → Scale s ⊎ Unscaled s
 scale-cases s = ⊎-elim heard (λ e. inr (silent e)) (either (ltZ (pos 0) (peak s)))
   where
     silent : ltZ (pos 0) (peak s) ≡ false → Unscaled s
-    silent e = (rw (scale-silent s (omega (zar, smax-in s))) refl, omega (zar, smax-in s))
+    silent e = (rw (scale-silent s (omega (zar, peak-halves s))) refl, omega (zar, peak-halves s))
 
     -- by norm's shifts
     by : (m : ℕ) → scalauto s ≡ pos 4 -ℤ pos m → P (peak s) * 2 ^ m < 32768 → Scale s ⊎ Unscaled s
@@ -93,8 +85,8 @@ scale-cases s = ⊎-elim heard (λ e. inr (silent e)) (either (ltZ (pos 0) (peak
     heard : ltZ (pos 0) (peak s) ≡ true → Scale s ⊎ Unscaled s
     heard e =
         let z = peak s *ℤ pos 65536 in
-        let k = normal z (omega (zar, scale-is (peak s) 65536)) (omega (zar, smax-in s, scale-is (peak s) 65536)) in
-        let size : natAbs z ≡ P (peak s) * 65536 = omega (arith, abs-is z, scale-is (peak s) 65536, smax-in s) in
+        let k = normal z (omega (zar, scale-is (peak s) 65536)) (omega (zar, peak-halves s, scale-is (peak s) 65536)) in
+        let size : natAbs z ≡ P (peak s) * 65536 = omega (arith, abs-is z, scale-is (peak s) 65536, peak-halves s) in
         let m = k .shifts in
         by m
         (scale-heard s e ∙ (ap (sub (pos 4)) (k .is) ∙ minus-plain (pos 4) (pos m) (omega (zar, k .most, minus-is (pos 4) (pos m)))))

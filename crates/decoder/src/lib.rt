@@ -3,9 +3,7 @@
 use synthesis::Cells;
 ghost use mathlib.Core.Path.{_≡_};
 ghost use mathlib.Core.Bool.{true};
-ghost use mathlib.Core.List.{_++_};
-ghost use lib.IntN.{pos};
-ghost use lib.ListN.{length, replicate};
+ghost use lib.ListN.{length};
 ghost use Rattle.standard.specs.LongTerm.{is-lag};
 ghost use Rattle.standard.specs.Frame.{received};
 ghost use Rattle.standard.specs.Decoder as standard;
@@ -27,29 +25,6 @@ pub struct Decoded {
     pub state: Decoder,
 }
 
-// The history at the front of a frame's residual, which is still to come.
-fn remembered(drp: [i16; 120]) -> [i16; 280]
-    ensures { λ r. ⌜ r ≡ drp ++ replicate 160 (pos 0) ⌝ }
-{
-    let mut all = [0i16; 280];
-    for k in 0..120usize {
-        all[k] = drp[k];
-    }
-    all
-}
-
-// Its last 120 samples, for the next one.
-fn last(drp: &[i16]) -> [i16; 120]
-    requires { ⌜ length (now drp) ≡ 120 ⌝ }
-    ensures { λ r. ⌜ r ≡ now (drp .entry) ⌝ }
-{
-    let mut kept = [0i16; 120];
-    for k in 0..120usize {
-        kept[k] = drp[k];
-    }
-    kept
-}
-
 // 4.3, the whole: 76 codewords, 160 samples, and the state after them.
 fn frame(m: Decoder, codewords: &[i16], samples: &mut [i16]) -> Decoder
     requires { ⌜ (length (now codewords) ≡ 76) × ((length (now samples) ≡ 160) × (is-lag (m .nrp) ≡ true)) ⌝ }
@@ -59,7 +34,7 @@ fn frame(m: Decoder, codewords: &[i16], samples: &mut [i16]) -> Decoder
     let before = m.drp;
     let old = m.larpp;
     let v = m.v;
-    let mut drp = remembered(before);
+    let mut drp = history::remembered(before);
     let nrp = residual::decoded(m.nrp, codewords, &mut drp[0..280]);
     let larpp = shortterm::ratios(codewords::larc_valid(&codewords[0..8]));
     let cells = speech::frame(
@@ -71,7 +46,7 @@ fn frame(m: Decoder, codewords: &[i16], samples: &mut [i16]) -> Decoder
     );
     let after = cells.v;
     Decoder {
-        drp: last(&drp[160..280]),
+        drp: history::last(&drp[160..280]),
         nrp: nrp,
         larpp: larpp,
         v: after,

@@ -3,3 +3,4 @@ pub mod Marks
 pub mod Soundness
 pub mod Subframes
 pub mod Whole
+pub mod Calls

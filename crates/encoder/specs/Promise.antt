@@ -57,7 +57,7 @@ pub record Encodes (e : Encoder) (samples lent : List ℤ) (a : Encoded) (left :
 abbrev encoder-of : Coder → Encoder
 encoder-of c = record { z1 = c .z1; «l_z2» = c .L-z2; mp = c .mp; larpp = c .LARpp; u = c .u; dp = c .dp }
 
-same-state : (e f : Encoder) → coder e ≡ coder f → e ≡ f
+pub same-state : (e f : Encoder) → coder e ≡ coder f → e ≡ f
 unfolding coder
 same-state e f p = ap encoder-of p
 

@@ -8,20 +8,21 @@ use native.Mathlib.Omega.{arith}
 use native.Mathlib.Nat.{div-lt-iff-lt-mul, le-div-iff-mul-le, le-of-suc-le-suc}
 use lib.Dec.{leb}
 use lib.Pow.{pow-add, pow-pos}
-use lib.IntN.{ℤ, pos, negsuc, natAbs}
+use lib.IntN.{ℤ, pos, negsuc, _*ℤ_, natAbs}
 use lib.ListN.{length, length-map}
 use lib.Signed.{leZ}
-use mir.Syntax.{w16}
+use mir.Syntax.{w16, w32}
 use borrow.Author.Tests.{leb-true, leb-false, le-leb, lt-leb}
-use Rattle.integers.specs.Halves.{zar, le-or-lt}
+use Rattle.integers.specs.Halves.{P, N, zar, le-or-lt}
+use Rattle.integers.specs.Sums.{scale-is}
 use Rattle.lists.specs.First.{first, first-le, first-holds, first-least}
 use Rattle.lists.specs.Best.{largest-above, largest-covers, largest-within}
 use Rattle.lists.specs.Tab.{map-at}
-use Rattle.standard.specs.Arithmetic.{within, _>>_, _<<_, abs, peak}
+use Rattle.standard.specs.Arithmetic.{within, up, _>>_, _<<_, abs, peak}
 use Rattle.standard.specs.Tables.{_at_}
 use Rattle.standard.specs.Rpe.{exponent, xmaxc}
 use Rattle.standard.specs.House.{fit}
-use Rattle.arithmetic.specs.Within.{within-yes, within-is}
+use Rattle.arithmetic.specs.Within.{within-yes, within-is, range-is}
 use Rattle.arithmetic.specs.Clip.{plus-plain, abs-clip}
 use Rattle.arithmetic.specs.Shift.{keep-plain}
 use Rattle.fields.specs.Fit.{fit-yes}
@@ -37,6 +38,14 @@ peak-in xs =
     λ j h. rw (map-at abs xs j (pos 0) (pos 0) (rw length-map at h)) (omega (zar, abs-clip (xs at j)))
     in
     within-yes (pos 0) (pos 32767) (peak xs) (largest-above sizes) (largest-within sizes (pos 32767) refl each)
+
+-- for `omega`
+pub peak-halves : (xs : List ℤ) → (P (peak xs) ≤ 32767) × (N (peak xs) ≤ 0)
+peak-halves xs = range-is 0 32767 (peak xs) (peak-in xs)
+
+-- so 4.2.4's and 4.2.11's shift of it to the top of a long word loses nothing
+pub peak-up : (xs : List ℤ) → up w32 (peak xs) 16 ≡ peak xs *ℤ pos 65536
+peak-up xs = keep-plain (omega (zar, peak-halves xs, scale-is (peak xs) 65536))
 
 -- and no pulse is larger
 pub peak-covers : (xs : List ℤ) (j : ℕ) → j < length xs → leZ (abs (xs at j)) (peak xs) ≡ true

@@ -2,7 +2,6 @@
 use Prim.Native.Nat.{ℕ, _+_, _≤_}
 use mathlib.Core.Path.{_≡_, refl, ap, ap₂, sym, _∙_}
 use mathlib.Core.List.{List, [], _∷_, _++_, append-assoc, append-nil}
-use native.Mathlib.Nat.{le-of-eq}
 use native.Mathlib.Omega.{arith}
 use lib.IntN.{ℤ}
 use lib.ListN.{length, take, drop, length-append, length-drop, take-append-drop, drop-of-length-le}
@@ -28,6 +27,10 @@ module _ {A : Type 0} (x r : List A) (a n k : ℕ) (h : length x ≡ a + n) wher
 pub window-updated : (x new : List ℤ) (a : ℕ) → a + 40 ≤ length x → updated (drop a x) new ≡ drop (a + 40) (x ++ new)
 unfolding updated
 window-updated x new a h = rw (drop-drop 40 a x, drop-append-le (a + 40) x new h)
+
+-- 40 samples at the end of a list of 160
+pub put-last : {A : Type 0} (xs ys : List A) → length xs ≡ 160 → put 120 40 xs ys ≡ take 120 xs ++ ys
+put-last xs ys h = rw (drop-drop, drop-of-length-le xs {i = 160} (omega arith), append-nil)
 
 -- ---- sub-frame by sub-frame
 

@@ -24,9 +24,9 @@ use Rattle.standard.specs.Tables.{_at_}
 use Rattle.standard.specs.LongTerm.{back, scal, correlations, L-power}
 use Rattle.arithmetic.specs.Clip.{abs-clip, minus-clip}
 use Rattle.arithmetic.specs.Norm.{Normal, normal, norm-exact}
-use Rattle.arithmetic.specs.Shift.{keep-plain, down-in, shr-right}
-use Rattle.arithmetic.specs.Within.{within-is, within-yes, word, word-is}
-use Rattle.fields.specs.Amplitudes.{peak-in, peak-covers}
+use Rattle.arithmetic.specs.Shift.{down-in, shr-right}
+use Rattle.arithmetic.specs.Within.{within-yes, word, word-is}
+use Rattle.fields.specs.Amplitudes.{peak-halves, peak-up, peak-covers}
 use Rattle.lengths.specs.Subframes.{Lag, back-length}
 use Rattle.sums.specs.Room.{at-most, square-in, L-sum-steps, L-sum-plain, L-sum-in}
 use Rattle.lags.specs.Search.{scaled, correlated-at, product-small}
@@ -40,21 +40,11 @@ six-less n =
     (λ h. omega (zar, minus-clip w16 (pos 6) (pos n), minus-is (pos 6) (pos n), apart (sub (pos 6) (pos n))))
 
 module _ (d : List ℤ) where
-  -- dmax is from 0 to 32767
-  dmax-in : (P (peak d) ≤ 32767) × (N (peak d) ≡ 0)
-  dmax-in =
-      let (a, b) = within-is (pos 0) (pos 32767) (peak d) (peak-in d) in
-      (omega (zar, apart (peak d)), omega (zar, apart (peak d)))
-
-  -- so it goes to the top of a long word without loss
-  pub dmax-exact : up w32 (peak d) 16 ≡ peak d *ℤ pos 65536
-  dmax-exact = keep-plain {w = w32} (omega (zar, dmax-in, scale-is (peak d) 65536))
-
   -- where norm finds it above 0, if dmax is not 0
   pub dmax-above : is-zero (peak d) ≡ false → ltZ (pos 0) (up w32 (peak d) 16) ≡ true
   dmax-above e =
       let m : natAbs (peak d) ≡ 0 → ⊥ = eqb-false (natAbs (peak d)) 0 e in
-      rw dmax-exact (omega (zar, dmax-in, abs-is (peak d), scale-is (peak d) 65536))
+      rw (peak-up d) (omega (zar, peak-halves d, abs-is (peak d), scale-is (peak d) 65536))
 
   -- the shifts that bring dmax to the top of a word, 0 where dmax is 0
   record Shifts : Type 0 where
@@ -63,15 +53,15 @@ module _ (d : List ℤ) where
     stays : P (peak d) * 2 ^ count < 32768
 
   none : is-zero (peak d) ≡ true → Shifts
-  none e = record { count = 0; is = rw e; stays = omega (arith, dmax-in) }
+  none e = record { count = 0; is = rw e; stays = omega (arith, peak-halves d) }
 
   some : is-zero (peak d) ≡ false → Shifts
   some e =
       let z = peak d *ℤ pos 65536 in
       let s = scale-is (peak d) 65536 in
-      let n : Normal z = normal z (rw dmax-exact at (dmax-above e)) (omega (zar, dmax-in)) in
-      let l : natAbs z ≡ P (peak d) * 65536 = omega (arith, dmax-in, abs-is z) in
-      record { count = n .shifts; is = rw (e, dmax-exact) (n .is); stays = omega (arith, rw l at (n .stays)) }
+      let n : Normal z = normal z (rw (peak-up d) at (dmax-above e)) (omega (zar, peak-halves d)) in
+      let l : natAbs z ≡ P (peak d) * 65536 = omega (arith, peak-halves d, abs-is z) in
+      record { count = n .shifts; is = rw (e, peak-up d) (n .is); stays = omega (arith, rw l at (n .stays)) }
 
   -- scal d is a count from 0 to 6, by which dmax comes below 512
   record Scaling : Type 0 where
@@ -116,7 +106,7 @@ module _ (d : List ℤ) where
       let x = d at k in
       let n = scaling .count in
       let c = peak-covers d k h in
-      let m : natAbs x ≤ 512 * 2 ^ n = omega (zar, know f, dmax-in, abs-clip x, scaling .below) in
+      let m : natAbs x ≤ 512 * 2 ^ n = omega (zar, know f, peak-halves d, abs-clip x, scaling .below) in
       let (p, q) = down-in x n 512 (omega (arith, abs-is x)) (omega (arith, abs-is x)) in
       rw (scaling .is, shr-right w16 x (pos n) (omega zar), abs-is (x >> n)) (omega (arith, apart (x >> n)))
 

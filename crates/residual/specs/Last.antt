@@ -14,7 +14,7 @@ use Rattle.standard.specs.Frame.{Subframe}
 use Rattle.standard.specs.Decoder.{sub-decoded}
 use Rattle.lengths.specs.Subframes.{full}
 use Rattle.lengths.specs.Decoding.{Start, sub-decoded-length, sub-decoded-start}
-use Rattle.residual.specs.Window.{window-updated}
+use Rattle.history.specs.Window.{window-updated}
 
 -- the history that a sub-frame leaves
 sub-last : (s : List ℤ × ℤ) (f : Subframe) → Start s → sub-decoded s f .0 .0 ≡ drop 40 (s .0 ++ sub-decoded s f .1)

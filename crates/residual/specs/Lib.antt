@@ -1,4 +1,3 @@
-pub mod Window
 pub mod Received
 pub mod Last
 pub mod Turn

@@ -2,13 +2,11 @@
 use Prim.Native.Nat.{ℕ, _<_}
 use mathlib.Core.Path.{_≡_, refl, _∙_}
 use mathlib.Core.Bool.{true}
-use mathlib.Core.List.{List, _++_, append-nil, zipWith}
+use mathlib.Core.List.{List, zipWith}
 use native.Mathlib.Omega.{arith}
 use lib.IntN.{ℤ, pos, natAbs}
-use lib.ListN.{length, getD, take, drop, drop-of-length-le}
-use lib.Seq.{drop-drop}
+use lib.ListN.{length, getD, drop}
 use Rattle.integers.specs.Halves.{P, zar, apart, abs-is}
-use Rattle.lists.specs.Parts.{put}
 use Rattle.lists.specs.Tab.{zip-at}
 use Rattle.standard.specs.Arithmetic.{add}
 use Rattle.standard.specs.Tables.{_at_}
@@ -53,7 +51,3 @@ sub-steps drp nrp c v xmp e d y lag h s ev el ex ee ed ey =
     let grid : P (v at 2) ≡ natAbs (v at 2) = rw ev (fit-place 2 _ (field-fit c 2 h (omega arith))) in
     let place : P lag ≡ natAbs lag = lag-place lag (rw el (Nr-range nrp (v at 0) s)) .0 in
     (rw ev at el, ey ∙ rw (ee, ed, ex, grid, gain, place, el, ev) refl)
-
--- 40 samples at the end of a list of 160
-pub put-last : {A : Type 0} (xs ys : List A) → length xs ≡ 160 → put 120 40 xs ys ≡ take 120 xs ++ ys
-put-last xs ys h = rw (drop-drop, drop-of-length-le xs {i = 160} (omega arith), append-nil)

@@ -17,7 +17,7 @@ use Rattle.standard.specs.LongTerm.{is-lag}
 use Rattle.standard.specs.Decoder.{sub-decoded}
 use Rattle.lengths.specs.Subframes.{full}
 use Rattle.lengths.specs.Decoding.{Start, sub-decodes-range, sub-decodes-samples}
-use Rattle.residual.specs.Window.{window, window-put}
+use Rattle.history.specs.Window.{window, window-put}
 use Rattle.residual.specs.Last.{last-is}
 
 module _ (h₀ : List ℤ) (nrp : ℤ) where

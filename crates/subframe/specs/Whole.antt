@@ -1,13 +1,9 @@
 -- A sub-frame put together from its stages, in the definition's order.
 use Prim.Native.Nat.{ℕ, _≤_}
 use mathlib.Core.Path.{_≡_, refl}
-use mathlib.Core.List.{List, _∷_, _++_, zipWith, append-nil}
-use native.Mathlib.Omega.{arith}
+use mathlib.Core.List.{List, _∷_, zipWith}
 use lib.IntN.{ℤ, pos, natAbs}
-use lib.ListN.{length, take, drop-of-length-le}
-use lib.Seq.{drop-drop}
 use mir.Syntax.{w32}
-use Rattle.lists.specs.Parts.{put}
 use Rattle.standard.specs.Arithmetic.{shr, add, sub, peak}
 use Rattle.standard.specs.Frame.{sub-words}
 use Rattle.fields.specs.Gains.{gain-in}
@@ -26,10 +22,6 @@ pulse-codes x = xMc (amplitude (block-code x)) (grid (Mc x) x)
 -- 4.2.18: the 40 samples that the sub-frame adds to dp[−120..−1]
 unfoldable pub added : List ℤ → List ℤ → List ℤ
 added dp d = let f = sub-coded dp d .codes in reconstructed (natAbs (f .Nc)) f dp
-
--- 40 samples at the end of a list of 160
-pub put-last : {A : Type 0} (xs ys : List A) → length xs ≡ 160 → put 120 40 xs ys ≡ take 120 xs ++ ys
-put-last xs ys h = rw (drop-drop, drop-of-length-le xs {i = 160} (omega arith), append-nil)
 
 module _ (dp d : List ℤ) where
   -- 4.2.11: the lag and the gain code

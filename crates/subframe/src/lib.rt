@@ -59,18 +59,15 @@ pub fn sub_coded(d: &[i16], dp: &mut [i16], c: &mut [i16]) -> Search
     let found = lags::lag_and_gain(d, &dp[0..120]);
     let search = found.search;
     let lag = search.lag;
-    let dpp = longterm::estimate(&dp[0..120], lag, found.bc);
-    let choice = selected(weighting::weighted(d, dpp));
+    let bc = found.bc;
+    let dpp = longterm::estimate(&dp[0..120], lag, bc);
+    let x = weighting::weighted(d, dpp);
+    let choice = selected(x);
+    let mc = choice.mc;
+    let xmaxc = choice.xmaxc;
     let xmc = choice.xmc;
-    written(
-        lag as i16,
-        found.bc as i16,
-        choice.mc as i16,
-        choice.xmaxc,
-        xmc,
-        c,
-    );
-    let ep = rpe::positioned(choice.mc, rpe::inverse(choice.xmaxc, xmc));
+    written(lag as i16, bc as i16, mc as i16, xmaxc, xmc, c);
+    let ep = rpe::positioned(mc, rpe::inverse(xmaxc, xmc));
     longterm::reconstructed(ep, dpp, &mut dp[120..160]);
     search
 }

@@ -4,16 +4,16 @@ use mathlib.Core.List.{List, _++_, zip}
 use native.Mathlib.Omega.{arith}
 use lib.IntN.{ℤ}
 use lib.ListN.{length, take, length-append}
+use lib.Seq.{take-at}
 use mir.Syntax.{w16, w32}
-use mir.Val.{SFits}
+use mir.Val.{SFits, toZ, ofZ}
 use borrow.Author.Needs.{needs}
 use Rattle.integers.specs.Ranges.{back, res}
 use Rattle.lists.specs.Scan.{run, run-length}
-use lib.Seq.{take-at}
 use Rattle.standard.specs.Preprocessing.{offset, emphasis, downscaled}
 use Rattle.standard.specs.Lpc.{r, ending, ratio-codes}
 use Rattle.standard.specs.ShortTerm.{ratios, coefficients, analysed}
-use Rattle.standard.specs.Coder.{Coder, analysis}
+use Rattle.standard.specs.Coder.{Coder}
 use Rattle.standard.specs.House.{sound-coder}
 use Rattle.lengths.specs.Analysis.{downscaled-length, scaled-length, rescaled-length}
 use Rattle.preprocess.specs.Promise.{kept, emphasis-words}
@@ -30,6 +30,7 @@ module _ (s : tie.Start) where
   abbrev sop-of : List ℤ
   sop-of = s .args .sop .now
 
+  -- its numbers fit their types
   z1-fits : SFits w16 (s .args .m .z1)
   z1-fits = search needs
 
@@ -39,6 +40,7 @@ module _ (s : tie.Start) where
   mp-fits : SFits w16 (s .args .m .mp)
   mp-fits = search needs
 
+  -- each stage has 160 samples
   sof-length : length (whole.sof c-of sop-of .1) ≡ 160
   sof-length = run-length offset _ (downscaled sop-of) ∙ (downscaled-length sop-of ∙ s .pre .0)
 
@@ -51,13 +53,13 @@ module _ (s : tie.Start) where
 offset-requires : tie.Need-offset-requires
 unfolding kept sound-coder
 offset-requires c κs =
-    let s = c .before .before .before .before .before in
+    let s = c .before .before .before .before .before .before in
     (ap length (ap (take 160) (c .before .before .room .ensures)) ∙ sym (s .pre .0), rw (back (z1-fits s), back (l-z2-fits s)) (s .pre .1 .1))
 
 -- 4.2.1, 4.2.2
 module _ (t : tie.After-offset) where
   abbrev start : tie.Start
-  start = t .before .before .before .before .before .before
+  start = t .before .before .before .before .before .before .before
 
   offset-state : kept (t .offset .result) ≡ whole.sof (c-of start) (sop-of start) .0
   unfolding kept
@@ -67,13 +69,19 @@ module _ (t : tie.After-offset) where
   unfolding kept
   offset-samples = rw (back (z1-fits start), back (l-z2-fits start)) at (t .offset .ensures .1)
 
+  -- the two fit their types, and this is the state as it is kept
   z1-after : SFits w16 (t .offset .result .z1)
   z1-after = search needs
 
   l-z2-after : SFits w32 (t .offset .result .«l_z2»)
   l-z2-after = search needs
 
-  -- as the next stage reads them, in the front of the room that was lent
+  offset-kept : record { z1 = toZ w16 (ofZ w16 (t .offset .result .z1)); L-z2 = toZ w32 (ofZ w32 (t .offset .result .«l_z2»)) }
+      ≡ whole.sof (c-of start) (sop-of start) .0
+  unfolding kept
+  offset-kept = rw (back z1-after, back l-z2-after) offset-state
+
+  -- the samples as the next stage reads them, in the front of the room that was lent
   sof-back : (rest : List ℤ) → take 160 (t .offset .last .1 .1 .0 ++ rest) ≡ whole.sof (c-of start) (sop-of start) .1
   sof-back rest = take-at _ rest 160 (ap length offset-samples ∙ sof-length start) ∙ offset-samples
 
@@ -82,13 +90,13 @@ module _ (t : tie.After-offset) where
 
 emphasis-requires : tie.Need-emphasis-requires
 emphasis-requires c κs =
-    let t = c .before .before .before .before .before in
+    let t = c .before .before .before .before in
     start t .pre .1 .0 ∙ sym (ap length (sof-back t _) ∙ sof-length (start t))
 
 -- 4.2.3
 module _ (e : tie.After-emphasis) where
   abbrev filters : tie.After-offset
-  filters = e .before .before .before .before .before .before
+  filters = e .before .before .before .before .before
 
   abbrev first : tie.Start
   first = start filters
@@ -134,18 +142,19 @@ module _ (n : tie.After-filtered) where
   new-is : n .before .before .ratios .result ≡ ratios (whole.codes (c-of at-start) (sop-of at-start))
   new-is = n .before .before .ratios .ensures ∙ ap ratios (codes-are coded)
 
+  -- the lattice, from the old ratios to the new
+  abbrev lattice : List ℤ → List ℤ → List ℤ × List ℤ
+  lattice new xs = run analysed (c-of at-start .u) (zip (coefficients (c-of at-start .LARpp) new) xs)
+
   u-is : n .filtered .result ≡ whole.d (c-of at-start) (sop-of at-start) .0
   u-is =
-      n .filtered .ensures .0
-      ∙ ap₂ (λ (new xs : List ℤ). run analysed (at-start .args .m .u) (zip (coefficients (at-start .args .m .larpp) new) xs) .0) new-is (back-is coded)
+      let given : n .filtered .result ≡ lattice (n .before .before .ratios .result) (coded .measured .last .0) .0 = n .filtered .ensures .0 in
+      given ∙ ap₂ (λ (new xs : List ℤ). lattice new xs .0) new-is (back-is coded)
 
   d-is : n .filtered .last .1 .1 .1 .0 ≡ whole.d (c-of at-start) (sop-of at-start) .1
-  d-is =
-      n .filtered .ensures .1
-      ∙ ap₂ (λ (new xs : List ℤ). run analysed (at-start .args .m .u) (zip (coefficients (at-start .args .m .larpp) new) xs) .1) new-is (back-is coded)
+  d-is = n .filtered .ensures .1 ∙ ap₂ (λ (new xs : List ℤ). lattice new xs .1) new-is (back-is coded)
 
 returns : tie.Need-returns
-unfolding kept
 returns c =
     let n = c .before .before in
     let t = coded n in
@@ -155,7 +164,7 @@ returns c =
     let m = c-of s in
     let sop = sop-of s in
     let (codes-given, ending-given, d-given) = gives m sop in (
-      rw (back (z1-after o), back (l-z2-after o), res (e .emphasis)) (next-is m sop (offset-state o) (mp-is e) (new-is n) (u-is n)),
+      next-is m sop (offset-kept o) (res (e .emphasis) ∙ mp-is e) (new-is n) (u-is n),
       (
         codes-are t ∙ sym codes-given,
         (

@@ -1,13 +1,14 @@
 use mathlib.Core.Path.{_≡_, ap, ap₂, _∙_}
 use mathlib.Core.List.{List}
 use lib.IntN.{ℤ}
-use lib.ListN.{length}
+use mir.Syntax.{w16}
+use mir.Val.{toZ, ofZ}
 use borrow.Author.Needs.{needs}
 use Rattle.integers.specs.Ranges.{res}
 use Rattle.standard.specs.Lpc.{scalauto, scaled, rescaled, L-ACF, r, ending, ratio-codes}
 use Rattle.lengths.specs.Analysis.{scaled-length}
 use Rattle.autocorrelation.specs.Bounds.{scaled-small, L-ACF-above}
-use Rattle.analysis.specs.Whole.{sums, back-again}
+use Rattle.analysis.specs.Whole.{sums}
 use Rattle.analysis.proofs.measured.Statement.{statement}
 use Rattle.analysis.proofs.measured.Tie as tie
 
@@ -48,11 +49,12 @@ returns c =
     let a = f .before in
     let t = a .before .before .before in
     let n = t .before .before in
-    let scale = res (n .scalauto) ∙ scale-is n in (
+    let scale = res (n .scalauto) ∙ scale-is n in
+    let given : b .rescaled .last .1 .0 ≡ rescaled (toZ w16 (ofZ w16 (n .scalauto .result))) (t .scaled .last .1 .0) = b .rescaled .ensures in (
       c .ratio-codes .ensures ∙ ap ratio-codes (f .reflection-coefficients .ensures .0 ∙ ap r (sums-are a)),
       (
         f .reflection-coefficients .ensures .1 ∙ ap ending (sums-are a),
-        b .rescaled .ensures ∙ ap₂ rescaled scale (small-is t),
+        given ∙ ap₂ rescaled scale (small-is t),
       ),
     )
 

@@ -11,7 +11,8 @@ use Rattle.integers.specs.Sums.{scale-is}
 use Rattle.integers.specs.Ranges.{zfits, res, wide, bits-pos, bits-eq}
 use Rattle.standard.specs.Arithmetic.{sub, peak}
 use Rattle.arithmetic.specs.Shift.{up-bits}
-use Rattle.autocorrelation.specs.Scale.{smax-in, smax-shifted, scale-silent, scale-heard}
+use Rattle.fields.specs.Amplitudes.{peak-halves, peak-up}
+use Rattle.autocorrelation.specs.Scale.{scale-silent, scale-heard}
 use Rattle.autocorrelation.proofs.scalauto.Statement.{statement}
 use Rattle.autocorrelation.proofs.scalauto.Tie as tie
 
@@ -20,18 +21,18 @@ module _ (c : tie.After-peak) where
   smax = peak (c .before .args .s .now)
 
   smax-fits : SFits w16 smax
-  smax-fits = omega (zar, smax-in (c .before .args .s .now))
+  smax-fits = omega (zar, peak-halves (c .before .args .s .now))
 
   -- as the code has it, shifted
   smax-is : toZ w32 ((ofZ w32 (mem w16 (c .peak .result)) * 65536) % 4294967296) ≡ smax *ℤ pos 65536
   smax-is =
       rw (res (c .peak), c .peak .ensures)
-      (up-bits w32 smax 16 (wide smax-fits tt) ∙ smax-shifted (c .before .args .s .now))
+      (up-bits w32 smax 16 (wide smax-fits tt) ∙ peak-up (c .before .args .s .now))
 
 -- where the test finds sound it is above 0
 above : (c : tie.Else1) → ltZ (pos 0) (smax (c .before)) ≡ true
 above c =
-    let i = smax-in (c .before .before .args .s .now) in
+    let i = peak-halves (c .before .before .args .s .now) in
     let n = rw (c .before .peak .ensures, bits-pos w16 (smax (c .before)) (omega (zar, i))) at (c .if1 .left) in
     omega (zar, i, n)
 

@@ -12,7 +12,8 @@ use Rattle.standard.specs.Frame.{sub-widths}
 use Rattle.standard.specs.Decoder.{Nr}
 use Rattle.lengths.specs.Decoding.{Nr-range}
 use Rattle.fields.specs.Fit.{fit-is}
-use Rattle.residual.specs.Sub.{field-fit, lag-place, sub-steps, put-last}
+use Rattle.history.specs.Window.{put-last}
+use Rattle.residual.specs.Sub.{field-fit, lag-place, sub-steps}
 use Rattle.residual.proofs.sub_decoded.Statement.{statement}
 use Rattle.residual.proofs.sub_decoded.Tie as tie
 

@@ -1,3 +1,4 @@
+use Prim.Native.Nat.{ℕ}
 use mathlib.Core.Path.{_≡_, ap, _∙_}
 use native.Mathlib.Omega.{arith}
 use lib.ListN.{length, take}
@@ -16,11 +17,15 @@ mc-requires : tie.Need-mc-requires
 mc-requires c κs = search needs
 
 grid-requires : tie.Need-grid-requires
-grid-requires c κs = rw (c .mc .ensures) (grid-in (c .before .args .x))
+grid-requires c κs = omega (arith, c .mc .ensures, grid-in (c .before .args .x))
 
 -- the selected grid
 selects : (c : tie.After-grid) → let x = c .before .before .args .x in c .grid .result ≡ grid (Mc x) x
-selects c = rw (c .before .mc .ensures) at (c .grid .ensures)
+selects c =
+    let m = c .before .mc in
+    let x = c .before .before .args .x in
+    let given : c .grid .result ≡ grid (m .result) x = c .grid .ensures in
+    given ∙ ap (λ (n : ℕ). grid n x) (m .ensures)
 
 -- the code of its largest size
 codes : (c : tie.After-xmaxc) → c .xmaxc .result ≡ block-code (c .before .before .before .before .before .before .args .x)

@@ -1,6 +1,6 @@
-use Prim.Native.Nat.{ℕ, _+_, _-_, _≤_, _<_}
-use mathlib.Core.Path.{_≡_, refl, sym, ap, _∙_}
-use mathlib.Core.List.{List, [], _∷_, _++_}
+use Prim.Native.Nat.{ℕ, _+_, _-_, _≤_}
+use mathlib.Core.Path.{_≡_, refl, sym, _∙_}
+use mathlib.Core.List.{List, [], _∷_}
 use native.Mathlib.Omega.{arith}
 use lib.IntN.{ℤ, pos}
 use lib.ListN.{length, getD, set, drop, length-set}
@@ -33,6 +33,7 @@ four-set (y₀ ∷ y₁ ∷ []) l b m x h = absurd (omega arith)
 four-set (y₀ ∷ []) l b m x h = absurd (omega arith)
 four-set [] l b m x h = absurd (omega arith)
 
+-- and no pulse yet
 four-kept : (c : List ℤ) (l b m x : ℤ) (xmc : List ℤ) → 4 ≤ length c
     → let c₀ = set (set (set (set c 0 l) 1 b) 2 m) 3 x in c₀ ≡ filled 4 (target l b m x xmc) c₀
 four-kept c l b m x xmc h = rw (four-set c l b m x h) refl
@@ -56,6 +57,7 @@ module _ (c : tie.After-c Inv-loop μ-loop) where
       let (a, b, e) = c .before .before .loop .inv in
       fill-length _ _ (4 + i) e (omega (arith, pulses)) (omega arith) ∙ b
 
+  -- the pulse is a word
   stored : SFits w16 (getD (s .args .t5) i (pos 0))
   stored = search needs
 
@@ -63,11 +65,9 @@ loop-again : tie.Need-loop-again Inv-loop μ-loop
 loop-again c =
     let (a, b, e) = c .before .before .loop .inv in
     let n : 4 + i c + 1 ≡ 4 + (i c + 1) = omega arith in
-    let first : List ℤ = mem w16 (s c .args .lag) ∷ mem w16 (s c .args .bc) ∷ mem w16 (s c .args .mc) ∷ mem w16 (s c .args .xmaxc) ∷ [] in (
-      omega arith,
-      b,
-      rw n at (fill-next _ _ (4 + i c) e (pos 0) (omega (arith, pulses c)) (omega arith) (back (stored c) ∙ sym (getD-append-add first (s c .args .t5) (i c) (pos 0)))),
-    )
+    let first : List ℤ = mem w16 (s c .args .lag) ∷ mem w16 (s c .args .bc) ∷ mem w16 (s c .args .mc) ∷ mem w16 (s c .args .xmaxc) ∷ [] in
+    let pulse = back (stored c) ∙ sym (getD-append-add first (s c .args .t5) (i c) (pos 0)) in
+    (omega arith, b, rw n at (fill-next _ _ (4 + i c) e (pos 0) (omega (arith, pulses c)) (omega arith) pulse))
 
 -- after the last turn all are there
 ends : (c : tie.After-loop Inv-loop μ-loop) → let s = c .before .before in
@@ -76,7 +76,8 @@ ends c =
     let s = c .before .before in
     let p : length (s .args .t5) ≡ 13 = search needs in
     let (a, b, e) = c .before .loop .inv in
-    rw (back (s .fits .lag), back (s .fits .bc), back (s .fits .mc), back (s .fits .xmaxc)) at (fill-end _ _ (4 + c .before .loop .i) e (omega arith) (omega arith))
+    let all = fill-end _ _ (4 + c .before .loop .i) e (omega arith) (omega arith) in
+    rw (back (s .fits .lag), back (s .fits .bc), back (s .fits .mc), back (s .fits .xmaxc)) at all
 
 same-length : tie.Need-same-length Inv-loop μ-loop
 same-length c =

@@ -1,15 +1,14 @@
-use Prim.Native.Nat.{ℕ, _+_, _-_, _*_, _^_, _≤_, _<_}
-use mathlib.Core.Path.{_≡_, refl, sym, ap, _∙_}
+use Prim.Native.Nat.{ℕ, _-_, _*_, _^_, _≤_, _<_}
+use mathlib.Core.Path.{_≡_, refl, _∙_}
 use mathlib.Core.List.{List, map}
 use native.Mathlib.Omega.{arith}
 use lib.IntN.{ℤ, pos, _*ℤ_, natAbs}
 use lib.ListN.{length, length-map}
-use lib.Signed.{shrZ}
 use mir.Syntax.{w16, w32}
 use mir.Val.{SFits, toZ}
 use borrow.Author.Needs.{needs}
 use Rattle.integers.specs.Halves.{zar, mem}
-use Rattle.integers.specs.Ranges.{zfits, back, wide, shr-fits, product-fits}
+use Rattle.integers.specs.Ranges.{back, wide, shr-fits, product-fits}
 use Rattle.lists.specs.Tab.{map-at}
 use Rattle.standard.specs.Arithmetic.{_>>_, L-squares}
 use Rattle.standard.specs.Tables.{_at_}

@@ -6,8 +6,8 @@ use lib.IntN.{pos}
 use lib.ListN.{length, getD, take, length-map}
 use lib.Seq.{take-all}
 use mir.Syntax.{w16}
-use mir.Val.{SFits, ofZ, toZ}
-use borrow.Author.Needs.{needs, sfits-of}
+use mir.Val.{SFits, toZ}
+use borrow.Author.Needs.{needs}
 use Rattle.integers.specs.Ranges.{back, res}
 use lib.Signed.{ltZ}
 use Rattle.lists.specs.First.{by-cond}

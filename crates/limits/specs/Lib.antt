@@ -1,0 +1,7 @@
+pub mod Signals
+pub mod Words
+pub mod Sizes
+pub mod Steps
+pub mod Sums
+pub mod Exact
+pub mod Shifts
