@@ -39,6 +39,7 @@ mark Mark-of.Absent = none
 mark Mark-of.Rule = some house.rule
 mark Mark-of.Found = some house.found
 
+-- the marks of the four sub-frames, in order
 unfoldable pub marks : Marks → List (Option house.Mark)
 marks m = mark (m .first) ∷ mark (m .second) ∷ mark (m .third) ∷ mark (m .fourth) ∷ []
 
@@ -54,19 +55,23 @@ pub record Encodes (e : Encoder) (samples lent : List ℤ) (a : Encoded) (left :
 
 -- ---- it determines the outcome: no two values of a type stand for the same
 
+-- a state is read back from what it stands for
 abbrev encoder-of : Coder → Encoder
 encoder-of c = record { z1 = c .z1; «l_z2» = c .L-z2; mp = c .mp; larpp = c .LARpp; u = c .u; dp = c .dp }
 
+-- so two states that stand for the same are one
 pub same-state : (e f : Encoder) → coder e ≡ coder f → e ≡ f
 unfolding coder
 same-state e f p = ap encoder-of p
 
+-- an ending is read back too
 abbrev ending-of : Option lpc.Ending → Ending
 ending-of none = Ending-of.Absent
 ending-of (some lpc.silent) = Ending-of.Silent
 ending-of (some (lpc.stopped n)) = Ending-of.Stopped n
 ending-of (some lpc.complete) = Ending-of.Complete
 
+-- each case comes back
 ending-back : (e : Ending) → ending-of (ending e) ≡ e
 unfolding ending
 ending-back Ending-of.Absent = refl
@@ -74,14 +79,17 @@ ending-back Ending-of.Silent = refl
 ending-back (Ending-of.Stopped n) = refl
 ending-back Ending-of.Complete = refl
 
+-- so two endings that stand for the same are one
 same-ending : (e f : Ending) → ending e ≡ ending f → e ≡ f
 same-ending e f p = sym (ending-back e) ∙ ap ending-of p ∙ ending-back f
 
+-- a mark is read back too
 abbrev mark-of : Option house.Mark → Mark
 mark-of none = Mark-of.Absent
 mark-of (some house.rule) = Mark-of.Rule
 mark-of (some house.found) = Mark-of.Found
 
+-- and the four of them
 abbrev marks-of : List (Option house.Mark) → Marks
 marks-of ms =
     record {
@@ -91,22 +99,27 @@ marks-of ms =
       fourth = mark-of (getD ms 3 none);
     }
 
+-- each case comes back
 mark-back : (m : Mark) → mark-of (mark m) ≡ m
 unfolding mark
 mark-back Mark-of.Absent = refl
 mark-back Mark-of.Rule = refl
 mark-back Mark-of.Found = refl
 
+-- and each of the four
 marks-back : (m : Marks) → marks-of (marks m) ≡ m
 unfolding marks
 marks-back m = rw (mark-back (m .first), mark-back (m .second), mark-back (m .third), mark-back (m .fourth))
 
+-- so two rows of marks that stand for the same are one
 same-marks : (m n : Marks) → marks m ≡ marks n → m ≡ n
 same-marks m n p = sym (marks-back m) ∙ ap marks-of p ∙ marks-back n
 
+-- an answer, by its parts
 abbrev encoded : ℕ → Encoder → Ending → Marks → Encoded
 encoded number state ending marks = record { number = number; state = state; ending = ending; marks = marks }
 
+-- two answers of the same parts are one
 same-answer : {a b : Encoded} → a .number ≡ b .number → a .state ≡ b .state → a .ending ≡ b .ending → a .marks ≡ b .marks → a ≡ b
 same-answer {a} {b} n s e m =
     let parts : encoded (a .number) (a .state) (a .ending) (a .marks) ≡ encoded (b .number) (b .state) (b .ending) (b .marks) = cc (n, s, e, m) in

@@ -1,11 +1,11 @@
 -- The four sub-frames of a frame, one after the other on one list of the history and of what they add.
 use Prim.Native.Nat.{ℕ, _+_, _*_}
-use mathlib.Core.Path.{_≡_, refl, sym, ap, ap₂, _∙_}
+use mathlib.Core.Path.{_≡_, refl, sym, ap, _∙_}
 use mathlib.Core.Option.{Option, some}
-use mathlib.Core.List.{List, [], _∷_, _++_, append-assoc, append-nil, map, flatten}
+use mathlib.Core.List.{List, [], _∷_, _++_, append-assoc, map, flatten}
 use native.Mathlib.Omega.{arith}
 use lib.IntN.{ℤ, natAbs}
-use lib.ListN.{length, take, drop, replicate, length-append, length-take, length-drop, take-append-drop, drop-of-length-le}
+use lib.ListN.{length, take, drop, replicate, length-append, length-take, length-drop, take-append-drop}
 use lib.Seq.{drop-drop}
 use Rattle.lists.specs.Scan.{run}
 use Rattle.lists.specs.Cut.{cut}
@@ -52,14 +52,23 @@ module _ (dp d : List ℤ) where
   abbrev pub four-marks : List (Option Mark)
   four-marks = map (λ s. some (mark s)) four
 
-  -- the history, and what they add to it
+  -- the history, and what they add to it one after the other
+  abbrev pub added₁ : List ℤ
+  added₁ = dp ++ added dp (own 0 d)
+
+  abbrev pub added₂ : List ℤ
+  added₂ = added₁ ++ added dp₁ (own 1 d)
+
+  abbrev pub added₃ : List ℤ
+  added₃ = added₂ ++ added dp₂ (own 2 d)
+
   abbrev pub four-added : List ℤ
-  four-added = (((dp ++ added dp (own 0 d)) ++ added dp₁ (own 1 d)) ++ added dp₂ (own 2 d)) ++ added dp₃ (own 3 d)
+  four-added = added₃ ++ added dp₃ (own 3 d)
 
   -- the definition runs through them
-  pub run-four : length d ≡ 160 → run sub-step dp (cut (replicate 4 40) d) ≡ (dp₄, four)
+  pub run-four : run sub-step dp (cut (replicate 4 40) d) ≡ (dp₄, four)
   unfolding run cut sub-step
-  run-four l = simp drop-drop
+  run-four = simp drop-drop
 
   -- the history after a sub-frame is the one before, moved by what it adds
   step-is : sub-step dp d .0 ≡ updated dp (added dp d)
@@ -73,9 +82,11 @@ module _ (dp d : List ℤ) where
 
 -- one sub-frame: what stands in the list before it and after
 module _ (n : ℕ) {dp x r h : List ℤ} (t : Stands (40 * n) dp x r h) (d : List ℤ) where
+  -- the history that stands there is of 120
   history : length dp ≡ 120
   history = sym (ap length (t .last)) ∙ rw length-drop (omega (arith, t .size))
 
+  -- a sub-frame that put its own in place leaves what stands there after it
   pub turn : {y : List ℤ} → y ≡ put (40 * n) 160 h (before n h ++ added (before n h) (own n d))
       → Stands (40 * n + 40) (sub-step dp (own n d) .0) (x ++ added dp (own n d)) (drop 40 r) y
   turn e =
@@ -90,15 +101,19 @@ record Grown (a : ℕ) (dp x : List ℤ) : Type 0 where
   size : length x ≡ a + 120
   last : drop a x ≡ dp
 
+-- a sub-frame carries that along
 grown-next : (a : ℕ) (dp x d : List ℤ) → Grown a dp x → Grown (a + 40) (sub-step dp d .0) (x ++ added dp d)
 grown-next a dp x d t =
     let l : length dp ≡ 120 = sym (ap length (t .last)) ∙ rw length-drop (omega (arith, t .size)) in
     record {
       size = rw length-append (omega (arith, t .size, added-length dp d l));
-      last = sym (step-is dp d ∙ (ap (λ (h : List ℤ). updated h (added dp d)) (sym (t .last)) ∙ window-updated x (added dp d) a (omega (arith, t .size))));
+      last =
+          let moved = window-updated x (added dp d) a (omega (arith, t .size)) in
+          sym (step-is dp d ∙ (ap (λ (h : List ℤ). updated h (added dp d)) (sym (t .last)) ∙ moved));
     }
 
 module _ (dp d : List ℤ) (l : length dp ≡ 120) where
+  -- so after the four
   all-four : Grown 160 (dp₄ dp d) (four-added dp d)
   all-four =
       let first = grown-next 0 dp dp (own 0 d) (record { size = omega arith; last = refl }) in
@@ -106,10 +121,11 @@ module _ (dp d : List ℤ) (l : length dp ≡ 120) where
       let third = grown-next 80 _ _ (own 2 d) second in
       grown-next 120 _ _ (own 3 d) third
 
-  -- after the four there are 280, of which the last 120 are the history of the next frame
+  -- there are 280 then
   pub four-length : length (four-added dp d) ≡ 280
   four-length = all-four .size
 
+  -- and the last 120 are the history of the next frame
   pub four-last : drop 160 (four-added dp d) ≡ dp₄ dp d
   four-last = all-four .last
 

@@ -3,7 +3,7 @@ use mathlib.Core.Path.{_≡_, refl}
 use mathlib.Core.Option.{Option, some}
 use mathlib.Core.List.{List, [], _++_, map, flatten}
 use lib.IntN.{ℤ}
-use lib.ListN.{length, replicate}
+use lib.ListN.{replicate}
 use Rattle.lists.specs.Scan.{run}
 use Rattle.lists.specs.Cut.{cut}
 use Rattle.standard.specs.Frame.{words}
@@ -33,9 +33,10 @@ module _ (c : Coder) (sop : List ℤ) where
 
   module _ {n : Coder} {larc d : List ℤ} {e : Ending}
       (en : n ≡ analysis (unseen c) sop .next) (el : larc ≡ analysis (unseen c) sop .LARc) (ee : e ≡ analysis (unseen c) sop .ending)
-      (ed : d ≡ analysis (unseen c) sop .d) (l : length d ≡ 160) where
+      (ed : d ≡ analysis (unseen c) sop .d) where
+    -- the frame, by what the steps give
     coded-is : coded c sop ≡ (with-history n (dp₄ (c .dp) d), record { LARc = larc; ending = e; subframes = four (c .dp) d })
-    coded-is = rw (coded-run, ← ed, run-four (c .dp) d l, ← en, ← el, ← ee) refl
+    coded-is = rw (coded-run, ← ed, run-four (c .dp) d, ← en, ← el, ← ee) refl
 
     -- the state, the ending, the marks and the codewords are those of the steps
     pub state-is : with-history n (dp₄ (c .dp) d) ≡ coded c sop .0

@@ -3,14 +3,13 @@
 use analysis::Filters;
 use reflection::Ending as Ended;
 ghost use mathlib.Core.Path.{_≡_};
-ghost use mathlib.Core.Bool.{true, cond, _&&_};
+ghost use mathlib.Core.Bool.{true};
 ghost use mathlib.Core.Option.{some};
 ghost use mathlib.Core.List.{_++_};
 ghost use Prim.Native.Nat.{_*_, _≤_};
-ghost use lib.Dec.{eqb};
-ghost use lib.IntN.{pos, natAbs};
+ghost use lib.IntN.{pos};
 ghost use lib.ListN.{length, take, replicate};
-ghost use Rattle.standard.specs.Arithmetic.{is-zero, within};
+ghost use Rattle.standard.specs.Arithmetic.{within};
 ghost use Rattle.standard.specs.Frame.{sub-words, words};
 ghost use Rattle.standard.specs.Coder as standard;
 ghost use Rattle.standard.specs.House as house;

@@ -1,16 +1,15 @@
 use Prim.Native.Nat.{_≤_}
-use mathlib.Core.Path.{_≡_, refl, sym, ap, ap₂, _∙_}
+use mathlib.Core.Path.{_≡_, refl, ap, ap₂, _∙_}
 use mathlib.Core.Option.{some}
 use mathlib.Core.List.{List, _++_}
 use native.Mathlib.Omega.{arith}
 use lib.IntN.{ℤ, pos}
-use lib.ListN.{length, take, drop, replicate, length-append, length-replicate, length-drop}
-use lib.Seq.{take-at, take-take, take-all, drop-append-le}
+use lib.ListN.{length, take, drop, replicate, length-append, length-drop}
+use lib.Seq.{take-at, take-take, drop-append-le}
 use mir.Syntax.{w16, w32}
 use mir.Val.{SFits}
 use borrow.Author.Needs.{needs}
 use Rattle.integers.specs.Ranges.{back}
-use Rattle.standard.specs.Lpc as lpc
 use Rattle.standard.specs.Coder.{Coder, analysis}
 use Rattle.standard.specs.House.{sound-coder}
 use Rattle.lengths.specs.Analysis.{analysis-codes-length, analysis-d-length}
@@ -114,10 +113,13 @@ module _ (q : tie.After-sub-frames) where
       ∙ (take-take 120 280 (h ++ z) (omega arith) ∙ take-at h z 120 (history begun))
 
   -- the codes of the ratios in front of the codewords
+  larc-put : coded .ratios .last .1 .0 ≡ found .frame .result .larc
+  larc-put = coded .ratios .ensures
+
   larc-lent : (rest : List ℤ) → take 8 (coded .ratios .last .1 .0 ++ rest) ≡ found .frame .result .larc
   larc-lent rest =
       let l = ap length (larc-is found) ∙ analysis-codes-length (unseen (c-of begun)) (sop begun) in
-      take-at _ rest 8 (ap length (coded .ratios .ensures) ∙ l) ∙ coded .ratios .ensures
+      take-at _ rest 8 (ap length larc-put ∙ l) ∙ larc-put
 
   marks-given : marks (q .sub-frames .result) ≡ four-marks (begun .args .e .dp) (d-of begun)
   marks-given = q .sub-frames .ensures .0 ∙ ap₂ four-marks dp-lent (d-back found _)
@@ -150,15 +152,16 @@ returns c =
     let t = found q in
     let s = begun q in
     let m = c-of s in
-    let l = d-length s in
-    let dp-is = n .last .ensures ∙ last-kept q _ in (
+    let unused = drop 280 (kept q .remembered .result) in
+    let dp-last : n .last .result ≡ take 120 (drop 160 (q .sub-frames .last .1 .0 ++ unused)) = n .last .ensures in
+    let dp-is = dp-last ∙ last-kept q unused in (
       rw (back (z1-after t), back (l-z2-after t), back (mp-after t))
-          (ap (with-history (coder-of (t .frame .result .next))) dp-is ∙ state-is m (sop s) (next-is t) (larc-is t) (how-is t) refl l),
+          (ap (with-history (coder-of (t .frame .result .next))) dp-is ∙ state-is m (sop s) (next-is t) (larc-is t) (how-is t) refl),
       (
-        c .answered .ensures ∙ ap some (ending-is m (sop s) (next-is t) (larc-is t) (how-is t) refl l),
+        c .answered .ensures ∙ ap some (ending-is m (sop s) (next-is t) (larc-is t) (how-is t) refl),
         (
-          marks-given q ∙ marks-are m (sop s) (next-is t) (larc-is t) (how-is t) refl l,
-          words-given q ∙ words-are m (sop s) (next-is t) (larc-is t) (how-is t) refl l,
+          marks-given q ∙ marks-are m (sop s) (next-is t) (larc-is t) (how-is t) refl,
+          words-given q ∙ words-are m (sop s) (next-is t) (larc-is t) (how-is t) refl,
         ),
       ),
     )

@@ -1,10 +1,10 @@
-use mathlib.Core.Path.{_≡_, sym, ap, _∙_}
-use mathlib.Core.Bool.{true, false, _&&_}
+use mathlib.Core.Path.{_≡_, ap}
+use mathlib.Core.Bool.{true, false}
 use lib.Dec.{eqb}
 use lib.IntN.{ℤ, pos, natAbs}
 use mir.Syntax.{w16}
 use mir.Val.{SFits, ofZ}
-use borrow.Author.Tests.{eqb-true, eq-eqb, ne-eqb}
+use borrow.Author.Tests.{eq-eqb, ne-eqb}
 use Rattle.integers.specs.Halves.{P, zar, apart, abs-is}
 use Rattle.integers.specs.Ranges.{bits-eq}
 use Rattle.standard.specs.Arithmetic.{is-zero}

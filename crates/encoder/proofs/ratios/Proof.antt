@@ -22,7 +22,8 @@ loop-again c =
     let n : length (s .args .t1) ≡ 8 = search needs in (
       omega arith,
       simp length-set (t .loop .inv .1),
-      fill-next (s .args .t1) (s .args .c .now) (t .loop .i) (t .loop .inv .2) (pos 0) (omega arith) (omega (arith, s .pre)) (back (sfits-of (c .c .given))),
+      fill-next (s .args .t1) (s .args .c .now) (t .loop .i) (t .loop .inv .2) (pos 0) (omega arith) (omega (arith, s .pre))
+          (back (sfits-of (c .c .given))),
     )
 
 returns : tie.Need-returns Inv-loop μ-loop

@@ -1,4 +1,5 @@
-use mathlib.Core.Path.{_≡_, refl, sym, ap, _∙_}
+use Prim.Native.Nat.{ℕ, _≤_}
+use mathlib.Core.Path.{_≡_, sym, ap, _∙_}
 use mathlib.Core.Bool.{true, false}
 use native.Mathlib.Omega.{arith}
 use lib.IntN.{ℤ, pos, _+ℤ_, _-ℤ_, _*ℤ_, *ℤ-comm}
@@ -36,11 +37,12 @@ module _ (s : tie.Start) where
   centre-fits : SFits w32 centre
   centre-fits = omega (zar, know z1-fits, scale-is z1 32768)
 
-  least-fits : SFits w32 (centre -ℤ pos 536740337)
-  least-fits = omega (zar, know z1-fits, scale-is z1 32768, minus-is centre (pos 536740337))
+  -- the ends of the range of L_z2, whatever its two numbers are
+  least-fits : (k : ℕ) → k ≤ 1000000000 → SFits w32 (centre -ℤ pos k)
+  least-fits k small = omega (zar, know z1-fits, scale-is z1 32768, minus-is centre (pos k))
 
-  most-fits : SFits w32 (centre +ℤ pos 536871409)
-  most-fits = omega (zar, know z1-fits, scale-is z1 32768, add-is centre (pos 536871409))
+  most-fits : (k : ℕ) → k ≤ 1000000000 → SFits w32 (centre +ℤ pos k)
+  most-fits k small = omega (zar, know z1-fits, scale-is z1 32768, add-is centre (pos k))
 
 cast-z1 : tie.Need-cast-z1
 cast-z1 c = let s = c .before .before in rw (back (z1-fits s)) (wide (z1-fits s) tt)
@@ -49,22 +51,31 @@ mul-centre : tie.Need-mul-centre
 mul-centre c = let s = c .before .before in rw (z1-is s) (centre-fits s)
 
 sub-between : tie.Need-sub-between
-sub-between c = let s = c .before .before .before .before in rw (z1-is s, back (centre-fits s)) (least-fits s)
+sub-between c = let s = c .before .before .before .before in rw (z1-is s, back (centre-fits s)) (least-fits s 536740337 (omega arith))
 
 add-between : tie.Need-add-between
-add-between c = let s = c .before .before .before .before in rw (z1-is s, back (centre-fits s)) (most-fits s)
+add-between c = let s = c .before .before .before .before in rw (z1-is s, back (centre-fits s)) (most-fits s _ (omega arith))
 
 -- the first test
 z1-test : (a : tie.After-between) → let s = a .before .before .before in a .between .result ≡ within (neg 16384) (pos 16380) (z1 s)
-z1-test a = a .between .ensures ∙ ap (within (neg 16384) (pos 16380)) (z1-is (a .before .before .before))
+z1-test a =
+    let s = a .before .before .before in
+    let said : a .between .result ≡ within (neg 16384) (pos 16380) (mem w32 (mem w16 (z1 s))) = a .between .ensures in
+    said ∙ ap (within (neg 16384) (pos 16380)) (z1-is s)
 
 -- and the second
 l-z2-test : (c : tie.After-between2) → let s = c .before .before .before .before .before .before in
     c .between2 .result ≡ within (neg 536740337) (pos 536871409) (s .args .e .«l_z2» -ℤ pos 32768 *ℤ z1 s)
 l-z2-test c =
     let s = c .before .before .before .before .before .before in
-    rw (z1-is s, back (centre-fits s), back (least-fits s), back (most-fits s), back (l-z2-fits s)) at (c .between2 .ensures)
-    ∙ (moved 536740337 536871409 (centre s) (s .args .e .«l_z2») ∙ ap (λ (x : ℤ). within (neg 536740337) (pos 536871409) (s .args .e .«l_z2» -ℤ x)) (*ℤ-comm (z1 s) (pos 32768)))
+    let middle = mem w32 (mem w32 (mem w16 (z1 s)) *ℤ pos 32768) in
+    let said : c .between2 .result
+    ≡ within (mem w32 (middle -ℤ pos 536740337)) (mem w32 (middle +ℤ pos 536871409)) (mem w32 (s .args .e .«l_z2»)) = c .between2 .ensures in
+    let least = back (least-fits s 536740337 (omega arith)) in
+    let most = back (most-fits s 536871409 (omega arith)) in
+    rw (z1-is s, back (centre-fits s), least, most, back (l-z2-fits s)) at said
+    ∙ (moved 536740337 536871409 (centre s) (s .args .e .«l_z2»)
+    ∙ ap (λ (x : ℤ). within (neg 536740337) (pos 536871409) (s .args .e .«l_z2» -ℤ x)) (*ℤ-comm (z1 s) (pos 32768)))
 
 returns : tie.Need-returns
 unfolding coder sound-coder

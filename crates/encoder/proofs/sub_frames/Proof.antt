@@ -5,15 +5,13 @@ use native.Mathlib.Omega.{arith}
 use lib.IntN.{ℤ}
 use lib.ListN.{length, take, drop, length-take, length-drop, take-append-drop}
 use borrow.Author.Needs.{needs}
-use Rattle.lists.specs.Parts.{put}
 use Rattle.standard.specs.Frame.{sub-words}
 use Rattle.standard.specs.Coder.{sub-coded}
 use Rattle.standard.specs.House as house
 use Rattle.history.specs.Window.{Stands, stands-lent, stands-all}
-use Rattle.subframe.specs.Whole.{added}
 use Rattle.encoder.specs.declared.Marks.{Marks}
 use Rattle.encoder.specs.Promise.{marks}
-use Rattle.encoder.specs.Subframes.{own, before, dp₁, dp₂, dp₃, dp₄, four-words, four-marks, turn, four-put, words-length}
+use Rattle.encoder.specs.Subframes.{own, before, dp₁, dp₂, dp₃, added₁, added₂, added₃, four-marks, turn, four-put, words-length}
 use Rattle.encoder.proofs.sub_frames.Statement.{statement}
 use Rattle.encoder.proofs.sub_frames.Tie as tie
 
@@ -41,7 +39,7 @@ module _ (f : tie.After-sub-frame) where
   abbrev s₁ : tie.Start
   s₁ = f .before .before .before
 
-  first : Stands 40 (dp₁ (dp s₁) (d s₁)) (dp s₁ ++ added (dp s₁) (own 0 (d s₁))) (drop 40 (rest s₁)) (f .sub-frame .last .1 .1 .0)
+  first : Stands 40 (dp₁ (dp s₁) (d s₁)) (added₁ (dp s₁) (d s₁)) (drop 40 (rest s₁)) (f .sub-frame .last .1 .1 .0)
   first = turn 0 (begins s₁) (d s₁) (f .sub-frame .ensures .1 .1)
 
 module _ (f : tie.After-sub-frame2) where
@@ -49,7 +47,7 @@ module _ (f : tie.After-sub-frame2) where
   f₁ = f .before .before .before .before .before
 
   second : let s = s₁ f₁ in
-      Stands 80 (dp₂ (dp s) (d s)) ((dp s ++ added (dp s) (own 0 (d s))) ++ added (dp₁ (dp s) (d s)) (own 1 (d s))) (drop 40 (drop 40 (rest s))) (f .sub-frame2 .last .1 .1 .0)
+      Stands 80 (dp₂ (dp s) (d s)) (added₂ (dp s) (d s)) (drop 40 (drop 40 (rest s))) (f .sub-frame2 .last .1 .1 .0)
   second = turn 1 (first f₁) (d (s₁ f₁)) (f .sub-frame2 .ensures .1 .1)
 
 module _ (f : tie.After-sub-frame3) where
@@ -57,8 +55,7 @@ module _ (f : tie.After-sub-frame3) where
   f₂ = f .before .before .before .before .before
 
   third : let s = s₁ (f₁ f₂) in
-      Stands 120 (dp₃ (dp s) (d s)) (((dp s ++ added (dp s) (own 0 (d s))) ++ added (dp₁ (dp s) (d s)) (own 1 (d s))) ++ added (dp₂ (dp s) (d s)) (own 2 (d s)))
-      (drop 40 (drop 40 (drop 40 (rest s)))) (f .sub-frame3 .last .1 .1 .0)
+      Stands 120 (dp₃ (dp s) (d s)) (added₃ (dp s) (d s)) (drop 40 (drop 40 (drop 40 (rest s)))) (f .sub-frame3 .last .1 .1 .0)
   third = turn 2 (second f₂) (d (s₁ (f₁ f₂))) (f .sub-frame3 .ensures .1 .1)
 
 returns : tie.Need-returns
@@ -79,7 +76,13 @@ returns c =
     let b₂ = stands-lent (first a) in
     let b₃ = stands-lent (second e) in
     let b₄ = stands-lent (third f) in
-    let p : Marks = record { first = a .sub-frame .result; second = e .sub-frame2 .result; third = f .sub-frame3 .result; fourth = g .sub-frame4 .result } in
+    let p : Marks =
+    record {
+      first = a .sub-frame .result;
+      second = e .sub-frame2 .result;
+      third = f .sub-frame3 .result;
+      fourth = g .sub-frame4 .result;
+    } in
     let m : marks p ≡ four-marks h x =
     ap₂ _∷_ (a .sub-frame .ensures .0 ∙ ap (λ (q : List ℤ). mark-of q (own 0 x)) b₁)
     (ap₂ _∷_ (e .sub-frame2 .ensures .0 ∙ ap (λ (q : List ℤ). mark-of q (own 1 x)) b₂)
@@ -89,7 +92,9 @@ returns c =
     let w₂ = e .sub-frame2 .ensures .1 .0 ∙ ap (λ (q : List ℤ). words-of q (own 1 x)) b₂ in
     let w₃ = f .sub-frame3 .ensures .1 .0 ∙ ap (λ (q : List ℤ). words-of q (own 2 x)) b₃ in
     let w₄ = g .sub-frame4 .ensures .1 .0 ∙ ap (λ (q : List ℤ). words-of q (own 3 x)) b₄ in
-    let placed = four-put (s .args .codewords .now) (a .sub-frame .last .1 .1 .1 .0) (e .sub-frame2 .last .1 .1 .1 .0) (f .sub-frame3 .last .1 .1 .1 .0) (g .sub-frame4 .last .1 .1 .1 .0) (s .pre .1 .1) (ap length w₁ ∙ words-length _ _) (ap length w₂ ∙ words-length _ _)
+    let placed =
+    four-put (s .args .codewords .now) (a .sub-frame .last .1 .1 .1 .0) (e .sub-frame2 .last .1 .1 .1 .0) (f .sub-frame3 .last .1 .1 .1 .0)
+    (g .sub-frame4 .last .1 .1 .1 .0) (s .pre .1 .1) (ap length w₁ ∙ words-length _ _) (ap length w₂ ∙ words-length _ _)
     (ap length w₃ ∙ words-length _ _) (ap length w₄ ∙ words-length _ _) in
     let made = ap₂ _++_ w₁ (ap₂ _++_ w₂ (ap₂ _++_ w₃ (w₄ ∙ sym (append-nil _)))) in
     (m, (placed ∙ ap (take 8 (s .args .codewords .now) ++_) made, stands-all last none))
