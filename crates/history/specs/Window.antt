@@ -5,7 +5,7 @@ use mathlib.Core.List.{List, [], _∷_, _++_, append-assoc, append-nil}
 use native.Mathlib.Omega.{arith}
 use lib.IntN.{ℤ}
 use lib.ListN.{length, take, drop, length-append, length-drop, take-append-drop, drop-of-length-le}
-use lib.Seq.{take-take, take-at, take-all, take-append-le, drop-append-le, drop-append-add, drop-drop}
+use lib.Seq.{take-take, take-at, take-append-le, drop-append-le, drop-append-add, drop-drop}
 use Rattle.lists.specs.Parts.{put}
 use Rattle.standard.specs.Rpe.{updated}
 
@@ -40,10 +40,6 @@ pub record Stands (a : ℕ) (dp x r h : List ℤ) : Type 0 where
   pub size : length x ≡ a + 120
   pub last : drop a x ≡ dp
 
--- at the start of a frame x is the history
-pub stands-first : (dp r : List ℤ) → length dp ≡ 120 → Stands 0 dp dp r (dp ++ r)
-stands-first dp r l = record { list = refl; size = omega arith; last = refl }
-
 module _ {a : ℕ} {dp x r h : List ℤ} (t : Stands a dp x r h) where
   -- what is lent to the next sub-frame starts with the history
   pub stands-lent : take 120 (take 160 (drop a h)) ≡ dp
@@ -60,13 +56,10 @@ module _ {a : ℕ} {dp x r h : List ℤ} (t : Stands a dp x r h) where
         last = sym (ap (λ (d : List ℤ). updated d new) (sym (t .last)) ∙ window-updated x new a (omega (arith, t .size)));
       }
 
-  -- after the last sub-frame nothing is left over, and the history of the next frame is the last 120 of all
+  -- after the last sub-frame nothing is left over
   pub stands-all : length r ≡ 0 → h ≡ x
   stands-all l = t .list ∙ rw (none r l, append-nil)
     where
       none : (r : List ℤ) → length r ≡ 0 → r ≡ []
       none [] e = refl
       none (y ∷ r) e = absurd (omega arith)
-
-  pub stands-kept : length r ≡ 0 → take 120 (drop a h) ≡ dp
-  stands-kept l = rw (stands-all l, t .last) (take-all 120 dp (omega (arith, ap length (t .last), length-drop a x, t .size)))

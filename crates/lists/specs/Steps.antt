@@ -1,5 +1,5 @@
 -- For a loop that sums or searches: n more steps from place i on, and the fold over a list, which is the same by index.
-use mathlib.Core.Path.{_≡_, refl, sym}
+use mathlib.Core.Path.{_≡_, sym}
 use mathlib.Core.List.{List, [], _∷_, foldl}
 use Prim.Native.Nat.{ℕ, zero, suc, _+_, _-_, _≤_, _<_}
 use native.Mathlib.Nat.{sub-eq-zero-of-le}
@@ -51,12 +51,3 @@ module _ {S A : Type 0} (g : S → A → S) where
       → Q 0 s → ((i : ℕ) (s : S) → i < length xs → Q i s → Q (suc i) (g s (getD xs i d))) → Q (length xs) (foldl g s xs)
   fold-keeps [] d s Q q k = q
   fold-keeps (x ∷ xs) d s Q q k = fold-keeps xs d (g s x) (λ i. Q (suc i)) (k 0 s (omega arith) q) (λ i s p. k (suc i) s (omega arith))
-
-  -- two loops that do the same at each turn come to the same: a clipping sum that never meets its limit is the plain sum
-  pub fold-same : (h : S → A → S) (xs : List A) (d : A) (s : S) (Q : ℕ → S → Type 0)
-      → Q 0 s → ((i : ℕ) (s : S) → i < length xs → Q i s → Q (suc i) (g s (getD xs i d)))
-      → ((i : ℕ) (s : S) → i < length xs → Q i s → g s (getD xs i d) ≡ h s (getD xs i d)) → foldl g s xs ≡ foldl h s xs
-  fold-same h [] d s Q q k e = refl
-  fold-same h (x ∷ xs) d s Q q k e =
-      rw (← e 0 s (omega arith) q)
-      (fold-same h xs d (g s x) (λ i. Q (suc i)) (k 0 s (omega arith) q) (λ i s p. k (suc i) s (omega arith)) (λ i s p. e (suc i) s (omega arith)))

@@ -1,9 +1,9 @@
 -- What the stages use of 4.4's tables.
-use Prim.Native.Nat.{ℕ, _+_, _-_, _^_, _<_, _≤_}
+use Prim.Native.Nat.{ℕ, _-_, _^_, _<_, _≤_}
 use mathlib.Core.Path.{_≡_, refl, sym, ap, _∙_}
 use mathlib.Core.Bool.{Bool, true}
 use mathlib.Core.Logic.{⊎-elim}
-use mathlib.Core.List.{List, map, foldl, zipWith}
+use mathlib.Core.List.{List, map, zipWith}
 use native.Mathlib.Omega.{arith}
 use lib.Dec.{leb}
 use lib.Pow.{pow-pos}
@@ -14,8 +14,8 @@ use borrow.Author.Tests.{leb-true, le-leb}
 use Rattle.integers.specs.Halves.{P, N, zar, eq-is, apart, le-or-lt}
 use Rattle.integers.specs.Sums.{minus-is}
 use Rattle.lists.specs.Every.{every, every-at}
-use Rattle.lists.specs.Tab.{tab, tab-at-zero, map-at, zip-at}
-use Rattle.standard.specs.Tables.{_at_, MIC, MAC, H, FAC, NRFAC, LARc-bits}
+use Rattle.lists.specs.Tab.{map-at, zip-at}
+use Rattle.standard.specs.Tables.{_at_, MIC, MAC, FAC, NRFAC, LARc-bits}
 
 -- past its end a table has what is asked for there: 0
 pub past-end : {A : Type 0} {d : A} (t : List A) {i : ℕ} → length t ≤ i → d ≡ getD t i d
@@ -38,26 +38,6 @@ FAC-above = passes (leZ (pos 0)) FAC refl refl
 pub NRFAC-above : (i : ℕ) → leZ (pos 0) (NRFAC at i) ≡ true
 unfolding every NRFAC
 NRFAC-above = passes (leZ (pos 0)) NRFAC refl refl
-
--- ---- the weighting filter
-
-turned : H ≡ tab (λ k. H at (10 - k)) 0 11
-unfolding H tab
-turned = refl
-
--- the same from either end
-pub H-mirrored : (i : ℕ) → i < 11 → H at i ≡ H at (10 - i)
-H-mirrored i h = ap (λ (t : List ℤ). t at i) turned ∙ tab-at-zero (λ k. H at (10 - k)) 11 i (pos 0) h
-
--- two taps are 0
-pub H-zeros : (H at 2 ≡ pos 0) × (H at 8 ≡ pos 0)
-unfolding H
-H-zeros = (refl, refl)
-
--- 01, sum (f)
-pub H-sizes : foldl _+_ 0 (map natAbs H) ≡ 24798
-unfolding H
-H-sizes = refl
 
 -- ---- MIC, MAC and the bits of LARc
 
