@@ -8,14 +8,15 @@ use lib.ListN.{length, length-map, length-replicate}
 use Rattle.lists.specs.Cut.{cut-count}
 use Rattle.lists.specs.Every.{every, every-map, every-so}
 use Rattle.lists.specs.Lengths.{sized, sized-yes, sized-length, cut-sized}
-use Rattle.standard.specs.Listing.{frame-bytes, most-frames, samples, frames}
+use Rattle.standard.specs.Files.{file-words}
+use Rattle.standard.specs.Listing.{frame-bytes, most-frames, frames}
 
--- two bytes make a sample
-pub samples-length : (bytes : List ℕ) → length (samples bytes) ≡ length bytes / 2
-unfolding samples
-samples-length [] = refl
-samples-length (low ∷ []) = refl
-samples-length (low ∷ high ∷ bytes) = omega (arith, samples-length bytes)
+-- two bytes make a word
+pub file-words-length : (bytes : List ℕ) → length (file-words bytes) ≡ length bytes / 2
+unfolding file-words
+file-words-length [] = refl
+file-words-length (low ∷ []) = refl
+file-words-length (low ∷ high ∷ bytes) = omega (arith, file-words-length bytes)
 
 -- there are as many frames as are whole, no more than the limit
 pub frames-count : (bytes : List ℕ) → length (frames bytes) ≡ min (length bytes / frame-bytes) most-frames
@@ -27,5 +28,5 @@ pub frames-sized : (bytes : List ℕ) → every (sized 160) (frames bytes) ≡ t
 unfolding frames
 frames-sized bytes =
     rw every-map
-    (every-so (sized frame-bytes) _ (λ b e. sized-yes 160 (samples b) (omega (arith, samples-length b, sized-length frame-bytes b e))) _
+    (every-so (sized frame-bytes) _ (λ b e. sized-yes 160 (file-words b) (omega (arith, file-words-length b, sized-length frame-bytes b e))) _
     (cut-sized (min (length bytes / frame-bytes) most-frames) frame-bytes bytes (omega arith)))

@@ -9,6 +9,7 @@ pub mod Rpe
 pub mod Coder
 pub mod Decoder
 pub mod Packed
+pub mod Files
 pub mod House
 pub mod Answers
 pub mod Listing

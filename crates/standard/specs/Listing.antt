@@ -7,12 +7,11 @@ use mathlib.Core.List.{List, [], _∷_, _++_, map}
 use lib.IntN.{ℤ, natAbs}
 use lib.ListN.{length, replicate}
 use lib.Dec.{ltb}
-use mir.Syntax.{w16}
-use mir.Val.{toZ}
 use Rattle.lists.specs.First.{first}
 use Rattle.lists.specs.Scan.{run}
 use Rattle.lists.specs.Cut.{cut}
 use Rattle.standard.specs.Frame.{sub-words}
+use Rattle.standard.specs.Files.{file-words}
 use Rattle.standard.specs.Lpc.{Ending, silent, stopped, complete}
 use Rattle.standard.specs.Coder.{Subcoded, Coded, coded}
 use Rattle.standard.specs.House.{home-coder, Mark, rule, found, mark}
@@ -87,15 +86,9 @@ E-line bytes =
 
 -- ---- the whole
 
--- "16-bit samples, low byte first"
-unfoldable pub samples : List ℕ → List ℤ
-samples [] = []
-samples (low ∷ []) = []
-samples (low ∷ high ∷ bytes) = toZ w16 (low + 256 * high) ∷ samples bytes
-
--- the whole frames, as far as the limit; left-over samples are never padded and coded
+-- the whole frames of samples, as far as the limit; left-over samples are never padded and coded
 unfoldable pub frames : List ℕ → List (List ℤ)
-frames bytes = map samples (cut (replicate (min (length bytes / frame-bytes) most-frames) frame-bytes) bytes)
+frames bytes = map file-words (cut (replicate (min (length bytes / frame-bytes) most-frames) frame-bytes) bytes)
 
 unfoldable pub listing : List ℕ → List ℕ
 listing bytes = header ++ (numbered frame-lines 1 (run coded home-coder (frames bytes) .1) ++ E-line (length bytes))

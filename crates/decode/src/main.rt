@@ -1,0 +1,44 @@
+// Decodes a file of codewords to a file of samples, both as 001's annex A3 has them, from home: SEQxx.COD to SEQxx.OUT.
+use decoder::Decoder;
+
+// The decoder after a frame, and whether there may be another.
+struct After {
+    state: Decoder,
+    more: bool,
+}
+
+// 76 codewords read, 160 samples written.
+fn turn(m: Decoder) -> After {
+    let mut bytes = [0; 152];
+    if !streams::frame(&mut bytes) {
+        return After {
+            state: m,
+            more: false,
+        };
+    }
+    let mut codewords = [0; 76];
+    files::words(&bytes, &mut codewords);
+    let mut samples = [0; 160];
+    let decoded = m.decode(&codewords, &mut samples);
+    let next = decoded.state;
+    let mut out = [0; 320];
+    files::bytes(&samples, &mut out);
+    After {
+        state: next,
+        more: streams::put(&out),
+    }
+}
+
+// Nothing says that an input ends, so the turns are counted down, from a number that is 2.7 years of speech.
+fn main() {
+    let mut state = Decoder::home();
+    let mut turns = 4294967295u32;
+    while 0 < turns {
+        let t = turn(state);
+        if !t.more {
+            return;
+        }
+        state = t.state;
+        turns = turns - 1;
+    }
+}

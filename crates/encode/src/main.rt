@@ -1,0 +1,44 @@
+// Encodes a file of samples to a file of codewords, both as 001's annex A3 has them, from home: SEQxx.INP to SEQxx.COD.
+use encoder::Encoder;
+
+// The encoder after a frame, and whether there may be another.
+struct After {
+    state: Encoder,
+    more: bool,
+}
+
+// 160 samples read, 76 codewords written.
+fn turn(e: Encoder) -> After {
+    let mut bytes = [0; 320];
+    if !streams::frame(&mut bytes) {
+        return After {
+            state: e,
+            more: false,
+        };
+    }
+    let mut samples = [0; 160];
+    files::words(&bytes, &mut samples);
+    let mut codewords = [0; 76];
+    let coded = e.encode(&samples, &mut codewords);
+    let next = coded.state;
+    let mut out = [0; 152];
+    files::bytes(&codewords, &mut out);
+    After {
+        state: next,
+        more: streams::put(&out),
+    }
+}
+
+// Nothing says that an input ends, so the turns are counted down, from a number that is 2.7 years of speech.
+fn main() {
+    let mut state = Encoder::home();
+    let mut turns = 4294967295u32;
+    while 0 < turns {
+        let t = turn(state);
+        if !t.more {
+            return;
+        }
+        state = t.state;
+        turns = turns - 1;
+    }
+}
