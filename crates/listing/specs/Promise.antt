@@ -1,6 +1,6 @@
 -- What listed promises: the lines of the next frame, and the lister that goes on after it.
 use Prim.Native.Nat.{ℕ, suc, _+_, _≤_, _<_}
-use mathlib.Core.Path.{_≡_, refl, sym, ap, ap₂, _∙_, subst}
+use mathlib.Core.Path.{_≡_, refl, sym, ap, ap₂, _∙_}
 use mathlib.Core.Bool.{Bool, true, false, cond, _&&_, and-false}
 use mathlib.Core.Option.{some}
 use mathlib.Core.List.{List, [], map}
@@ -16,8 +16,9 @@ use Rattle.standard.specs.House.{sound-coder, mark}
 use Rattle.standard.specs.Listing.{most-frames, frame-lines}
 use Rattle.refusals.specs.Calls.{encode-exactly, encode-done}
 use Rattle.lengths.specs.Frames.{coded-frame-sizes}
+use Rattle.encoder.specs.declared.Encoder.{Encoder}
 use Rattle.encoder.specs.declared.Encoded.{Encoded}
-use Rattle.encoder.specs.Promise.{coder, ending, marks, Encodes}
+use Rattle.encoder.specs.Promise.{coder, ending, marks, Encodes, same-state}
 use Rattle.encoder.specs.Calls.{number-is}
 use Rattle.text.specs.Written.{Puts, puts-none}
 use Rattle.listing.specs.declared.Lister.{Lister}
@@ -105,3 +106,27 @@ module _ (l : Lister) (bytes lent : List ℕ) where
         let is : frame-text (l .frames + 1) (ending (a .ending)) (marks (a .marks)) left ≡ frame-lines (suc (l .frames)) (t .1) =
         rw (add-one, how, told, codes) (lines-are (suc (l .frames)) (t .1) (coded-frame-sizes c (file-words bytes))) in
         record { next = rw (add-one, e, after); lines = rw (e, ← is) q }
+
+-- ---- it determines the outcome
+
+-- two listers that stand for the same are one
+abbrev lister : ℕ → Encoder → Lister
+lister n e = record { frames = n; encoder = e }
+
+pub one-start : (k l : Lister) → state k ≡ state l → k ≡ l
+unfolding state
+one-start k l p =
+    let e = same-state (k .encoder) (l .encoder) (ap (λ (s : State). s .1) p) in
+    let same : lister (k .frames) (k .encoder) ≡ lister (l .frames) (l .encoder) = ap₂ lister (ap (λ (s : State). s .0) p) e in
+    same
+
+-- any two outcomes that keep the promise are equal
+abbrev answer : Lister → ℕ → Listed
+answer l n = record { state = l; length = n }
+
+pub one-listing : (l : Lister) (bytes lent : List ℕ) (a b : Listed) (x y : List ℕ)
+    → Lists l bytes lent a x → Lists l bytes lent b y → (a ≡ b) × (x ≡ y)
+one-listing l bytes lent a b x y p q =
+    let after = one-start (a .state) (b .state) (p .next ∙ sym (q .next)) in
+    let same : answer (a .state) (a .length) ≡ answer (b .state) (b .length) = ap₂ answer after (p .lines .place ∙ sym (q .lines .place)) in
+    (same, p .lines .text ∙ sym (q .lines .text))

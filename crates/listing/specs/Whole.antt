@@ -22,7 +22,7 @@ use Rattle.standard.specs.Listing.{frame-bytes, most-frames, header, frame-line
 use Rattle.arithmetic.specs.Within.{word, word-yes}
 use Rattle.soundness.specs.States.{home-coder-sound, coded-sound}
 use Rattle.lines.specs.Lines.{E-beyond}
-use Rattle.listing.specs.Promise.{listed, listed-next}
+use Rattle.listing.specs.Promise.{State, listed, listed-next}
 
 -- the whole frames of an input, as far as the limit, each of 320 bytes
 unfoldable pub parts : List ℕ → List (List ℕ)
@@ -67,7 +67,8 @@ listed-count n c [] e h = omega arith
 listed-count n c (p ∷ ps) e h =
     let t = coded c (file-words p) in
     let s = coded-sound c (file-words p) e (file-words-fit p) in
-    rw (listed-next (n, c) p (omega arith) e) (listed-count (suc n) (t .0) ps s (omega arith) ∙ omega arith)
+    ap (λ (x : State × List ℕ). run listed (x .0) ps .0 .0) (listed-next (n, c) p (omega arith) e)
+    ∙ (listed-count (suc n) (t .0) ps s (omega arith) ∙ omega arith)
 
 -- and ended, of that count and of the bytes that follow the frames, gives the input's E line; beyond the limit one byte is enough
 pub ended-is : (bytes : List ℕ) (rest : ℕ)

@@ -1,0 +1,30 @@
+use Prim.Native.Nat.{_-_}
+use borrow.Author.Needs.{needs}
+use Rattle.calls.proofs.bytes_in.Statement.{statement}
+use Rattle.calls.proofs.bytes_in.Tie as tie
+
+abbrev Inv-loop : tie.InvT-loop
+Inv-loop halves r₀ i₀ r i = Unit {0}
+
+abbrev μ-loop : tie.MeasureT-loop
+μ-loop halves r₀ i₀ r i = 40 - i
+
+pub bytes-in-spec : {M : Type 1} → statement M
+bytes-in-spec =
+    tie.close
+    (tie.spec
+    Inv-loop
+    μ-loop
+    (λ c. search needs)
+    (λ c. search needs)
+    (λ c. search needs)
+    (λ c. search needs)
+    (λ c κs. search needs)
+    (λ c. search needs)
+    (λ c. search needs)
+    (λ c. search needs)
+    (λ c. search needs)
+    (λ c. search needs)
+    (λ c. search needs)
+    (λ c. search needs)
+    (λ c. search needs))
