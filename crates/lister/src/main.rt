@@ -54,7 +54,7 @@ fn turn(l: Lister) -> After {
 
 fn main() {
     let mut text = [0; 1024];
-    let length = listing::header(&mut text);
+    let length = lines::header(&mut text);
     if !print(text, length) {
         return;
     }
