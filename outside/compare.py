@@ -1,287 +1,247 @@
 #!/usr/bin/env python3
-"""Holds the model of clause 4 (clause4.py) to the vectors and to libgsm.
+"""Holds our programs to the second codec, to libgsm on integers and to spandsp.
 
-    python3 outside/compare.py --vectors DIR          every vector in DIR: enc/*.raw, dec/*.cod and what lies beside them
-    python3 outside/compare.py --libgsm PATH          libgsm, on made-up input; PATH is libgsm.so, or `auto`
+    python3 outside/compare.py --frames N --seed S        N made-up frames each way, and N / 5 single calls from any state
+    python3 outside/compare.py --vectors DIR              every vector in DIR: enc/*.raw, dec/*.cod and what lies beside them
+    python3 outside/compare.py --sequences                the published sequences, in the folder that RPELTP_SEQUENCES names
+    python3 outside/compare.py --lister                   the lister's other runs: pieces, what cannot be read or written
+    python3 outside/compare.py --limit                    the lister at 1,000,000 frames
+    python3 outside/compare.py --soak SECONDS --seed S    the first again and again, a new seed each round, and recordings if there are any
 
-Status 1: a difference that is not accounted for."""
+The programs are those of target/bin, the second codec is built in build/ from outside/second. Status 1: a difference, or a party that
+could not be had."""
 import argparse
 import collections
-import ctypes
-import ctypes.util
+import itertools
 import os
 import random
+import subprocess
 import sys
+import time
+import wave
+from array import array
 
-from clause4 import WIDTHS, Coder, Decoder, decode, encode, encoded, frames, pack, text, unpack
-from operations import first_other
-from signals import frames_to_decode, noise, random_coder, random_codewords, random_decoder, signals, words
+import given
+import libgsm
+import lister
+import peers
+import signals
+import states
+from differences import Difference, first_place, kept, same_lines, same_words
 
-
-# ---- differences
-
-class Difference(Exception):
-    """Where two sides differ, in words."""
-
-
-def agree(where, want, got, there):
-    """Nothing, if two lists are the same; else the first place where they are not."""
-    if want != got:
-        place, ours, theirs = first_other(list(want), list(got))
-        raise Difference(f'{where}, place {place}: {ours!r} here, {theirs!r} {there}')
-
-
-# ---- vectors
-
-def contents(path):
-    with open(path, 'rb') as file:
-        return file.read()
+ENDINGS = ['silent', 'complete'] + [f'stop{n}' for n in range(1, 9)]
+MARKS = ['rule', 'found']
+# what every run has to meet: stop1 is never reached
+MET = [name for name in ENDINGS + MARKS if name != 'stop1']
 
 
-def named(folder, ending):
-    """The paths of the files in a folder whose names end so, without that ending, in order."""
-    names = sorted(os.listdir(folder)) if os.path.isdir(folder) else []
-    return [os.path.join(folder, name[:-len(ending)]) for name in names if name.endswith(ending)]
+def counts(counter, names):
+    return ', '.join(f'{name} {counter[name]}' for name in names if counter[name])
 
 
-def encoder_vector(path):
-    """How many frames of PATH.raw were encoded and found to give PATH.cod, .pack and .lst."""
-    raw = contents(path + '.raw')
-    answers = encoded(raw)
-    ours = [codewords for codewords, _, _ in answers]
-    for number, (want, got) in enumerate(zip(ours, frames(contents(path + '.cod'), 76))):
-        agree(f'{path}.cod: frame {number}', want, got, 'in the file')
-    agree(f'{path}.cod: length', [152 * len(ours)], [len(contents(path + '.cod'))], 'in the file')
-    agree(f'{path}.pack: byte', b''.join(map(pack, ours)), contents(path + '.pack'), 'in the file')
-    packed = contents(path + '.pack')
-    agree(f'{path}.pack: unpacked frame', ours, [unpack(packed[i:i + 33]) for i in range(0, len(packed), 33)], 'from the file')
-    agree(f'{path}.lst: line', text(answers, len(raw)).splitlines(True), contents(path + '.lst').splitlines(True), 'in the file')
-    return len(answers)
+# ---- from home
+
+def encoded(run, seed):
+    """All parties on the samples of a run; what they made of it, and what was met, and of how many frames spandsp was held to it."""
+    samples = run.words.tobytes()
+    answers = {party: encode(samples) for party, encode in peers.ENCODERS.items()}
+    turned = turned_over(run.words, answers['spandsp'], answers['libgsm'])
+    coded = answers['libgsm']
+    if turned is not None:
+        # what spandsp carries is another state from here on
+        answers['spandsp'] = answers['spandsp'][:152 * turned] + coded[152 * turned:]
+    same_words(run, seed, 76, answers)
+    listings = {'the second codec': peers.second('list', samples), 'ours': peers.ours('lister', samples)}
+    same_lines(f'{run.name}, seed {seed}', samples, listings)
+    met = collections.Counter({word: listings['ours'].count(f'\t{word}\t'.encode()) for word in ENDINGS + MARKS})
+    if sum(met[ending] for ending in ENDINGS) != run.frames() or sum(met[mark] for mark in MARKS) != 4 * run.frames():
+        raise Difference(f'{run.name}: the listing has not an ending for each frame and a mark for each sub-frame')
+    return coded, met, run.frames() if turned is None else turned
 
 
-def decoder_vector(path):
-    """How many frames of PATH.cod were decoded and found to give PATH.out."""
-    state, count = Decoder(), 0
-    given, expected = frames(contents(path + '.cod'), 76), frames(contents(path + '.out'), 160)
-    for codewords, got in zip(given, expected):
-        state, want = decode(state, codewords)
-        agree(f'{path}.out: frame {count}', want, got, 'in the file')
-        count += 1
-    agree(f'{path}.out: length', [320 * len(given)], [len(contents(path + '.out'))], 'in the file')
-    return count
+def turned_over(samples, theirs, others):
+    """The first frame at which spandsp differs from libgsm, if 4.2.4 turns a sample over there, and else nothing: on x86-64 spandsp scales
+    by a sum that clips, so that a sample of 32760 or more comes back as 32752 and not as -32768."""
+    if theirs == others:
+        return None
+    frame = first_place(array('H', others), array('H', theirs)) // 76
+    emphasised = states.pre_emphasised(samples[:160 * (frame + 1)], 0, 0, 0)
+    return frame if max(list(emphasised)[160 * frame:]) >= 32760 else None
 
 
-def vectors(folder):
-    to_encode = named(os.path.join(folder, 'enc'), '.raw')
-    to_decode = named(os.path.join(folder, 'enc'), '.cod') + named(os.path.join(folder, 'dec'), '.cod')
-    if not to_encode or not to_decode:
-        raise Difference(f'{folder}: no vectors')
-    print(f'{sum(map(encoder_vector, to_encode))} frames of {len(to_encode)} files encoded, packed, unpacked and listed: no difference')
-    print(f'{sum(map(decoder_vector, to_decode))} frames of {len(to_decode)} files decoded: no difference')
+def decoded(run, seed):
+    """All parties on the codewords of a run; how many lags outside 40 to 120 they held."""
+    codewords = run.words.tobytes()
+    same_words(run, seed, 160, {party: decode(codewords) for party, decode in peers.DECODERS.items()})
+    valid = peers.valid_bits(codewords)
+    return sum(not 40 <= lag <= 120 for start in signals.STARTS for lag in valid[start::76])
 
 
-# ---- libgsm
-
-WORD, LONG, INT = ctypes.c_short, ctypes.c_long, ctypes.c_int
-Frame = ctypes.c_ubyte * 33
-Samples = WORD * 160
-
-
-def layout(*after_dp0):
-    """What libgsm carries, in the order of its source, as far as msr."""
-    class State(ctypes.Structure):
-        _fields_ = [('dp0', WORD * 280), *after_dp0, ('z1', WORD), ('L_z2', LONG), ('mp', INT), ('u', WORD * 8), ('LARpp', WORD * 8 * 2),
-                    ('j', WORD), ('ltp_cut', WORD), ('nrp', WORD), ('v', WORD * 9), ('msr', WORD)]
-    return State
-
-
-# libgsm exports no layout. Two are known, without its scratch array and with it, and both are tried: the shorter first, since it lies
-# within the other
-LAYOUTS = [layout(), layout(('e', WORD * 50))]
-
-
-class Libgsm:
-    """One encoder or decoder of libgsm, from home."""
-
-    def __init__(self, library, state_type):
-        self.library, self.state_type = library, state_type
-        library.gsm_create.restype = ctypes.c_void_p
-        library.gsm_destroy.argtypes = [ctypes.c_void_p]
-        library.gsm_encode.argtypes = [ctypes.c_void_p, Samples, Frame]
-        library.gsm_decode.argtypes = [ctypes.c_void_p, Frame, Samples]
-        self.address = library.gsm_create()
-
-    def __del__(self):
-        self.library.gsm_destroy(self.address)
-
-    def encode(self, samples):
-        """libgsm's frame: a signature of 4 bits, then the codewords, highest bits first."""
-        frame = Frame()
-        self.library.gsm_encode(self.address, Samples(*samples), frame)
-        rest, codewords = int.from_bytes(bytes(frame), 'big'), []
-        for width in reversed(WIDTHS):
-            codewords.insert(0, rest & (2 ** width - 1))
-            rest >>= width
-        return codewords
-
-    def decode(self, codewords):
-        """There is no room in the frame for bits that are not valid, so libgsm is never handed any."""
-        packed = 0xD
-        for word, width in zip(codewords, WIDTHS):
-            packed = packed << width | word
-        samples = Samples()
-        if self.library.gsm_decode(self.address, Frame(*packed.to_bytes(33, 'big')), samples) != 0:
-            raise Difference('libgsm refuses a frame')
-        return list(samples)
-
-    def own(self):
-        return self.state_type.from_address(self.address)
-
-    def coder(self):
-        """The state as ours. libgsm keeps two sets of LARpp and writes the next to place j."""
-        own = self.own()
-        return Coder(own.z1, own.L_z2, own.mp, list(own.LARpp[own.j & 1 ^ 1]), list(own.u), own.dp0[:120])
-
-    def decoder(self):
-        own = self.own()
-        return Decoder(own.dp0[:120], own.nrp, list(own.LARpp[own.j & 1 ^ 1]), own.v[:8], own.msr)
-
-    def place(self, state):
-        """Gives libgsm a state of ours."""
-        own = self.own()
-        own.dp0[:120] = state.dp
-        own.LARpp[own.j & 1 ^ 1][:] = state.LARpp
-        if isinstance(state, Coder):
-            own.z1, own.L_z2, own.mp, own.u[:] = state.z1, state.L_z2, state.mp, state.u
-        else:
-            own.nrp, own.v[:8], own.msr = state.nrp, state.v, state.msr
+def from_home(seed, frames, kinds=None, recordings=()):
+    """That many frames each way, and what the encoders made decoded too; how many frames went through each party."""
+    coded, total, all_met = signals.Run('what was encoded', 76), 0, collections.Counter()
+    for run in itertools.chain(signals.sounds(seed, frames, kinds), recordings):
+        answer, met, held = encoded(run, seed)
+        coded.add(run.name, array('h', answer))
+        total, all_met = total + run.frames(), all_met + met
+        said = '' if held == run.frames() else f', spandsp to frame {held} alone, where it does not turn a sample over'
+        print(f'encoded: {run.name}: {run.frames()} frames of {len(run.parts)} signals; {counts(met, ENDINGS)}; {counts(met, MARKS)}{said}')
+    for run in itertools.chain(signals.coded(seed, frames), [coded]):
+        bad = decoded(run, seed)
+        total, all_met['bad lags'] = total + run.frames(), all_met['bad lags'] + bad
+        print(f'decoded: {run.name}: {run.frames()} frames of {len(run.parts)} signals; lags outside 40 to 120: {bad}')
+    missing = [name for name in MET + ['bad lags'] if not all_met[name]]
+    # fewer frames, or fewer kinds of sound, have not room for all
+    if missing and frames >= 20000 and not kinds:
+        raise Difference(f'seed {seed}: no frame met: {", ".join(missing)}')
+    return total
 
 
-def fits(library, state_type):
-    """Whether libgsm's carried values are ours at home and after a frame of noise, so that they lie where state_type has them."""
-    dice = random.Random(1)
-    samples, codewords = noise(dice, 160, 4000), random_codewords(dice)
-    theirs = Libgsm(library, state_type)
-    home = theirs.coder() == Coder() and theirs.decoder() == Decoder()
-    theirs.encode(samples)
-    coded = theirs.coder() == encode(Coder(), samples)[0]
-    theirs = Libgsm(library, state_type)
-    theirs.decode(codewords)
-    return home and coded and theirs.decoder() == decode(Decoder(), codewords)[0]
+# ---- from any state
+
+PLACES = ((0, 'head'), (states.STATE, 'state'), (states.SAMPLES, 'samples'), (states.CODEWORDS, 'codewords'), (states.BYTES, 'bytes'))
 
 
-def known_layout(library):
-    return next((state_type for state_type in LAYOUTS if fits(library, state_type)), None)
+def differs(seed, number, named, place, values):
+    (name, record), (start, part) = named, [each for each in PLACES if each[0] <= place][-1]
+    said = ', '.join(f'{value} by {party}' for party, value in values.items())
+    file = kept('differs-call.raw', record.tobytes())
+    raise Difference(f'calls, seed {seed}: call {number} ({name}), word {place}, in the {part} at {place - start}: {said}\nthe record is {file}')
 
 
-def float_sum(wt, history):
-    """The sum of one lag as libgsm makes it when built with USE_FLOAT_MUL: each step rounded to 24 bits, the doubling last."""
-    total = 0.0
-    for x, y in zip(wt, history):
-        total = ctypes.c_float(total + x * y).value
-    return int(total) << 1
-
-
-def same_state(where, ours, theirs):
-    for name, want in vars(ours).items():
-        got = getattr(theirs, name)
-        if want != got:
-            raise Difference(f'{where}, then {name}: {want} here, {got} in libgsm')
-
-
-def encode_frame(where, theirs, state, samples, seen):
-    """The state after a frame and what libgsm makes of it. seen counts the endings, and the frames that only a lag search in floating
-    point accounts for."""
-    got = theirs.encode(samples)
-    after, want, ending, _ = encode(state, samples)
-    seen[ending] += 1
-    if want != got:
-        seen['floating'] += 1
-        after, other, _, _ = encode(state, samples, float_sum)
-        if other != got:
-            agree(where, want, got, 'from libgsm')
-    if theirs.state_type:
-        same_state(where, after, theirs.coder())
-    return after, got
-
-
-def decode_frame(where, theirs, state, codewords):
-    after, want = decode(state, codewords)
-    agree(where, want, theirs.decode(codewords), 'from libgsm')
-    if theirs.state_type:
-        same_state(where, after, theirs.decoder())
-    return after
-
-
-def encode_run(library, state_type, name, samples, seen):
-    """A run of frames from home: what libgsm makes of each."""
-    theirs, state, coded = Libgsm(library, state_type), Coder(), []
-    for start in range(0, len(samples), 160):
-        state, got = encode_frame(f'{name}: frame {start // 160}', theirs, state, samples[start:start + 160], seen)
-        coded.append(got)
-    return coded
-
-
-def decode_run(library, state_type, name, given):
-    theirs, state = Libgsm(library, state_type), Decoder()
-    for number, codewords in enumerate(given):
-        state = decode_frame(f'{name}: frame {number}', theirs, state, codewords)
-    return len(given)
-
-
-def from_states(library, state_type, dice, count, seen):
-    """Single frames, each way, from any sound state: they meet clips that no run from home meets."""
-    theirs = Libgsm(library, state_type)
-    for number in range(count):
-        coder, decoder = random_coder(dice), random_decoder(dice)
-        theirs.place(coder)
-        samples = words(dice, 160) if number % 2 else noise(dice, 160, 2 ** dice.randint(0, 15) - 1)
-        encode_frame(f'state {number}: encoding', theirs, coder, samples, seen)
-        theirs.place(decoder)
-        decode_frame(f'state {number}: decoding', theirs, decoder, random_codewords(dice))
-
-
-def libgsm(path):
-    found = ctypes.util.find_library('gsm') if path == 'auto' else path
-    if not found:
-        sys.exit('libgsm is not installed')
-    library, dice = ctypes.CDLL(found), random.Random(961)
-    state_type = known_layout(library)
-    runs, encoded_frames, seen = list(frames_to_decode(dice)), 0, collections.Counter()
-    for name, samples in signals(dice):
-        coded = encode_run(library, state_type, name, samples, seen)
-        encoded_frames += len(coded)
-        # what an encoder makes is decoded too, for a few frames
-        runs.append((f'{name}, decoded', coded[:10]))
-    decoded_frames = sum(decode_run(library, state_type, *run) for run in runs)
-    print(f'{encoded_frames} frames encoded and {decoded_frames} decoded, from home, as libgsm does them')
-    if state_type:
-        from_states(library, state_type, dice, 150, seen)
-        print('150 frames encoded and 150 decoded, each from another sound state, as libgsm does them')
-        print('the carried values were compared after each frame')
+def libgsm_call(peer, record):
+    """What libgsm makes of a record that is not refused: the places it answers for, and the words there."""
+    call, words = record[0], array('h', record.tobytes())
+    peer.place(call, words[states.STATE:states.SAMPLES])
+    if call == states.ENCODE:
+        place, answer = states.CODEWORDS, peer.encode(words[states.SAMPLES:states.SAMPLES + 160].tobytes())
     else:
-        print('not compared: the carried values, which do not lie in this libgsm where they are known to in others')
-    floating = seen.pop('floating', 0)
-    print('endings met: ' + ', '.join(f'{ending} {seen[ending]}' for ending in sorted(seen)))
-    if floating:
-        print(f'frames encoded otherwise than the standard asks: {floating}. This libgsm is built to sum its lags in floating point')
-        print('(USE_FLOAT_MUL), and with such sums the model gives what it gives')
-    print('0 differ for no known reason')
+        place, answer = states.SAMPLES, peer.decode(words[states.CODEWORDS:states.CODEWORDS + 76].tobytes())
+    yield from enumerate((x & 65535 for x in peer.carried(call)), states.STATE)
+    yield from enumerate(array('H', answer), place)
+
+
+def calls(seed, count):
+    """Single calls: ours and the second codec on all, libgsm on those that encode or decode. What of them was met."""
+    made, met = states.records(seed, count), collections.Counter()
+    asked = b''.join(record.tobytes() for _, record in made)
+    answers = {'the second codec': peers.second('calls', asked), 'ours': peers.ours('calls', asked)}
+    for party, answer in answers.items():
+        if len(answer) != len(asked):
+            raise Difference(f'calls: {party} gives {len(answer)} bytes for {len(asked)}; the records are {kept("differs-calls.raw", asked)}')
+    first, second = (array('H', answer) for answer in answers.values())
+    if first != second:
+        place = first_place(first, second)
+        number = place // states.WORDS
+        differs(seed, number, made[number], place % states.WORDS, {'the second codec': first[place], 'ours': second[place]})
+    peer = peers.Libgsm()
+    for number, (name, record) in enumerate(made):
+        answer = first[number * states.WORDS:(number + 1) * states.WORDS]
+        met[f'{states.CALLS[record[0]]} {answer[0]}'] += 1
+        if answer[0] == 0 and record[0] in (states.ENCODE, states.DECODE):
+            clips = states.clips_met(record, answer)
+            met.update(clips)
+            met.update(states.ON_PURPOSE + clip for clip in clips if name.startswith(states.ON_PURPOSE))
+            met['libgsm'] += 1
+            for place, value in libgsm_call(peer, record):
+                if value != answer[place]:
+                    differs(seed, number, (name, record), place, {'the others': answer[place], 'libgsm': value})
+        if answer[0] == 0 and record[0] == states.ENCODE:
+            met.update([states.ENDING_NAMES[answer[1]]] + [MARKS[mark - 1] for mark in answer[2:6]])
+    return len(made), met
+
+
+def from_states(seed, count):
+    total, met = calls(seed, count)
+    print(f'calls: {total} records; refusal numbers met: {counts(met, states.DONE + states.REFUSALS)}; '
+          f'libgsm from the same states: {met["libgsm"]}')
+    print(f'calls: {counts(met, ENDINGS)}; {counts(met, MARKS)}; {counts(met, states.CLIPS)}')
+    wanted = [states.ON_PURPOSE + clip for clip in states.CLIPS] + states.DONE + states.REFUSALS + MET
+    missing = [name for name in wanted if not met[name]]
+    if missing:
+        raise Difference(f'no call met: {", ".join(missing)}')
+    return total
+
+
+# ---- the modes
+
+def built():
+    """Names the parties, building those that are built."""
+    peers.build_second()
+    libgsm.build()
+    with open(libgsm.NAME, encoding='utf-8') as file:
+        print('parties: our programs; the second codec; spandsp; ' + file.read(), end='')
+
+
+def comparison(seed, frames):
+    began = time.monotonic()
+    total = from_home(seed, frames) + from_states(seed, frames // 5)
+    print(f'seed {seed}: {total} frames and calls, no difference ({time.monotonic() - began:.0f} s)')
+
+
+def asterisk():
+    """The paths of asterisk's recordings, if their package is installed."""
+    listed = subprocess.run(['dpkg', '-L', 'asterisk-core-sounds-en-wav'], stdout=subprocess.PIPE, stderr=subprocess.DEVNULL, text=True).stdout
+    return sorted(path for path in listed.splitlines() if path.endswith('.wav'))
+
+
+def recordings(paths, dice):
+    """A run of twenty of the recordings, cut to whole frames."""
+    run = signals.Run('recordings', 160)
+    for path in dice.sample(paths, min(20, len(paths))):
+        with wave.open(path) as sound:
+            if (sound.getframerate(), sound.getsampwidth(), sound.getnchannels()) == (8000, 2, 1):
+                samples = array('h', sound.readframes(sound.getnframes()))
+                run.add(os.path.basename(path), samples[:len(samples) // 160 * 160])
+    return [run] if run.parts else []
+
+
+def soak(seconds, seed):
+    began, total, paths = time.monotonic(), 0, asterisk()
+    print(f'recordings at hand: {len(paths)}')
+    for number in itertools.count(1):
+        print(f'round {number}, seed {seed}')
+        # the sounds that do not hang on the seed go through once
+        kinds = None if number == 1 else signals.CHANGING
+        total += from_home(seed, 20000, kinds, recordings(paths, random.Random(seed))) + from_states(seed, 4000)
+        passed = time.monotonic() - began
+        print(f'after round {number}: {total} frames and calls in {passed:.0f} s, {total / passed:.0f} a second, no difference', flush=True)
+        if passed >= seconds:
+            return
+        seed += 1
+
+
+def arguments_given():
+    parser = argparse.ArgumentParser(description=__doc__, formatter_class=argparse.RawDescriptionHelpFormatter)
+    choice = parser.add_mutually_exclusive_group(required=True)
+    choice.add_argument('--frames', type=int, metavar='N')
+    choice.add_argument('--vectors', metavar='DIR')
+    choice.add_argument('--sequences', action='store_true')
+    choice.add_argument('--lister', action='store_true')
+    choice.add_argument('--limit', action='store_true')
+    choice.add_argument('--soak', type=int, metavar='SECONDS')
+    parser.add_argument('--seed', type=int, default=961, metavar='S')
+    return parser.parse_args()
 
 
 def main():
-    parser = argparse.ArgumentParser(description=__doc__, formatter_class=argparse.RawDescriptionHelpFormatter)
-    choice = parser.add_mutually_exclusive_group(required=True)
-    choice.add_argument('--vectors', metavar='DIR')
-    choice.add_argument('--libgsm', metavar='PATH')
-    arguments = parser.parse_args()
+    arguments = arguments_given()
     try:
+        built()
         if arguments.vectors:
-            vectors(arguments.vectors)
+            given.vectors(arguments.vectors)
+        elif arguments.sequences:
+            given.sequences(os.environ.get('RPELTP_SEQUENCES'))
+        elif arguments.lister:
+            lister.other_runs()
+        elif arguments.limit:
+            lister.limit()
+        elif arguments.soak is not None:
+            soak(arguments.soak, arguments.seed)
         else:
-            libgsm(arguments.libgsm)
-    except Difference as difference:
-        print(difference)
+            comparison(arguments.seed, arguments.frames)
+    except (Difference, peers.Failed, libgsm.Missing) as fault:
+        print(fault)
         return 1
     return 0
 

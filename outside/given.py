@@ -1,0 +1,127 @@
+"""The stored vectors and, where someone has them, the published sequences: our programs and the second codec on each."""
+import os
+import random
+from array import array
+
+import clause4
+import peers
+import states
+from differences import Difference, same_bytes
+
+# Table A3.1 of 001: frames of each sequence; the last has no samples to encode
+SEQUENCES = {'SEQ01': 584, 'SEQ02': 947, 'SEQ03': 673, 'SEQ04': 520, 'SEQ05': 64}
+FRAME_BYTES = {'INP': 320, 'COD': 152, 'OUT': 320}
+# of each vector so many frames go through the slow model that trials.py needs
+MODELLED = 25
+
+
+def contents(path):
+    with open(path, 'rb') as file:
+        return file.read()
+
+
+def by_both(name, mode, program, given, source, expected):
+    """Our program and the second codec on what is given; both must give what a file has."""
+    same_bytes(name, (source, expected), ('ours', peers.ours(program, given)))
+    same_bytes(name, (source, expected), ('the second codec', peers.second(mode, given)))
+
+
+# ---- vectors
+
+def named(folder, ending):
+    """The paths of the files in a folder whose names end so, without that ending, in order."""
+    names = sorted(os.listdir(folder)) if os.path.isdir(folder) else []
+    return [os.path.join(folder, name[:-len(ending)]) for name in names if name.endswith(ending)]
+
+
+def packed_by_calls(path):
+    """The frames of a vector packed and unpacked by single calls of both."""
+    dice, expected, asked = random.Random(path), [], []
+    for codewords, place in zip(clause4.frames(contents(path + '.cod'), 76), range(0, 10 ** 9, 33)):
+        packed = list(contents(path + '.pack')[place:place + 33])
+        for call, given in ((states.PACK, {'codewords': codewords}), (states.UNPACK, {'packed': packed})):
+            record = states.record(dice, call, **given)
+            asked.append(record.tobytes())
+            record[0:8] = array('H', [0] * 8)
+            record[states.CODEWORDS:states.CODEWORDS + 76] = array('H', codewords)
+            record[states.BYTES:states.BYTES + 33] = array('H', packed)
+            expected.append(record.tobytes())
+    by_both(f'{path}: packed and unpacked', 'calls', 'calls', b''.join(asked), 'the file', b''.join(expected))
+
+
+def modelled(path):
+    """The slow model on the first frames of a vector: samples to codewords if there are any, codewords to samples."""
+    if os.path.exists(path + '.raw'):
+        raw = contents(path + '.raw')[:320 * MODELLED]
+        coded = b''.join(array('h', codewords).tobytes() for codewords, _, _ in clause4.encoded(raw))
+        same_bytes(f'{path}.cod', ('the file', contents(path + '.cod')[:152 * MODELLED]), ('clause4.py', coded))
+        if len(contents(path + '.raw')) == len(raw):
+            same_bytes(f'{path}.lst', ('the file', contents(path + '.lst')), ('clause4.py', clause4.listing(raw)))
+    state, samples = clause4.Decoder(), array('h')
+    for codewords in clause4.frames(contents(path + '.cod'), 76)[:MODELLED]:
+        state, answer = clause4.decode(state, codewords)
+        samples.extend(answer)
+    same_bytes(f'{path}.out', ('the file', contents(path + '.out')[:320 * MODELLED]), ('clause4.py', samples.tobytes()))
+
+
+def encoder_vector(path):
+    """How many frames of PATH.raw were found to give PATH.cod, .lst and .pack, and back."""
+    raw, cod, packed = (contents(path + ending) for ending in ('.raw', '.cod', '.pack'))
+    if len(cod) != len(raw) // 320 * 152:
+        raise Difference(f'{path}.cod: it has not a frame for each of .raw')
+    by_both(f'{path}.cod', 'encode', 'encode', raw, 'the file', cod)
+    by_both(f'{path}.lst', 'list', 'lister', raw, 'the file', contents(path + '.lst'))
+    same_bytes(f'{path}.pack', ('the file', packed), ('the second codec', peers.second('pack', cod)))
+    same_bytes(f'{path}.pack, unpacked', ('the file', cod), ('the second codec', peers.second('unpack', packed)))
+    packed_by_calls(path)
+    return len(raw) // 320
+
+
+def decoder_vector(path):
+    cod = contents(path + '.cod')
+    by_both(f'{path}.out', 'decode', 'decode', cod, 'the file', contents(path + '.out'))
+    return len(cod) // 152
+
+
+def vectors(folder):
+    to_encode = named(os.path.join(folder, 'enc'), '.raw')
+    to_decode = named(os.path.join(folder, 'enc'), '.cod') + named(os.path.join(folder, 'dec'), '.cod')
+    if not to_encode or not to_decode:
+        raise Difference(f'{folder}: no vectors')
+    print('vectors, by ours and by the second codec:')
+    print(f'{sum(map(encoder_vector, to_encode))} frames of {len(to_encode)} files encoded, listed, packed and unpacked: no difference')
+    print(f'{sum(map(decoder_vector, to_decode))} frames of {len(to_decode)} files decoded: no difference')
+    for path in to_decode:
+        modelled(path)
+    print(f'the first {MODELLED} frames of each by the slow model, clause4.py: no difference')
+
+
+# ---- the published sequences
+
+def sequence(folder, name, frames):
+    """The files of one sequence by their endings, each of the size that table A3.1 has."""
+    present, found = {entry.upper(): entry for entry in os.listdir(folder)}, {}
+    for ending, size in FRAME_BYTES.items():
+        file = f'{name}.{ending}'
+        if file == 'SEQ05.INP':
+            continue
+        if file not in present:
+            raise Difference(f'the published sequences: there is no {file}')
+        found[ending] = contents(os.path.join(folder, present[file]))
+        if len(found[ending]) != size * frames:
+            raise Difference(f'the published sequences: {file} has {len(found[ending])} bytes; by table A3.1 {frames} frames have {size * frames}')
+    return found
+
+
+def sequences(folder):
+    if not folder:
+        print('NOT RUN: the published sequences SEQ01 to SEQ05 were not at hand (RPELTP_SEQUENCES names no folder)')
+        return
+    if not os.path.isdir(folder):
+        raise Difference('the published sequences: RPELTP_SEQUENCES names no folder that there is')
+    for name, frames in SEQUENCES.items():
+        found = sequence(folder, name, frames)
+        if 'INP' in found:
+            by_both(f'{name}.COD', 'encode', 'encode', found['INP'], 'the sequence', found['COD'])
+        by_both(f'{name}.OUT', 'decode', 'decode', found['COD'], 'the sequence', found['OUT'])
+        print(f'{name}: {frames} frames{" encoded and" if "INP" in found else ""} decoded: no difference')

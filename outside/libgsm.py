@@ -1,0 +1,128 @@
+#!/usr/bin/env python3
+"""Builds libgsm on integers, as build/libgsm.so, from Debian's source package.
+
+    python3 outside/libgsm.py
+
+Debian's own amd64 build searches its lags in floating point (USE_FLOAT_MUL) and is not the standard's codec; this one is made without
+that flag on every kind of machine. The source is fetched by apt, which checks its signature and hashes, over lists of its own: the
+machine's package sources with deb-src for deb. Nothing of the machine's own lists is altered. Status 1: it could not be had."""
+import glob
+import os
+import re
+import shutil
+import subprocess
+import sys
+import tarfile
+
+BUILD = os.path.join(os.path.dirname(os.path.abspath(__file__)), '..', 'build')
+LIBRARY, NAME = os.path.join(BUILD, 'libgsm.so'), os.path.join(BUILD, 'libgsm.txt')
+# what toast.c and its companions have is the command line tool's
+CODEC = ('add', 'code', 'decode', 'gsm_create', 'gsm_decode', 'gsm_destroy', 'gsm_encode', 'gsm_explode', 'gsm_implode', 'gsm_option',
+         'long_term', 'lpc', 'preprocess', 'rpe', 'short_term', 'table')
+FIELDS = ('dp0', 'z1', 'L_z2', 'mp', 'u', 'LARpp', 'j', 'nrp', 'v', 'msr')
+# tells where in its state libgsm has what it carries, so that nobody has to know the layout of this or that version
+LAYOUT = '#include <stddef.h>\n#include "private.h"\nconst size_t layout[] = {%s, sizeof(longword)};\n' % ', '.join(
+    f'offsetof(struct gsm_state, {field})' for field in FIELDS)
+
+
+class Missing(Exception):
+    """What could not be had, in words."""
+
+
+def run(words, folder):
+    done = subprocess.run(words, cwd=folder, stdin=subprocess.DEVNULL, stdout=subprocess.PIPE, stderr=subprocess.STDOUT, text=True)
+    return done.returncode, done.stdout
+
+
+def machine_sources():
+    """The paths of the machine's own lists of package sources, and of its status file, as apt has them."""
+    asked = {'list': 'Dir::Etc::sourcelist/f', 'parts': 'Dir::Etc::sourceparts/d', 'status': 'Dir::State::status/f'}
+    _, said = run(['apt-config', 'shell', *(word for pair in asked.items() for word in pair)], '.')
+    found = dict(re.findall(r"^(\w+)='(.*)'$", said, re.M))
+    if set(found) != set(asked):
+        raise Missing(f'apt-config does not say where its sources are: {said}')
+    parts = glob.glob(os.path.join(found['parts'], '*.list')) + glob.glob(os.path.join(found['parts'], '*.sources'))
+    return [path for path in [found['list'], *parts] if os.path.isfile(path)], found['status']
+
+
+def as_source(name, text):
+    """The text of a list with deb-src for deb, in either of apt's two forms."""
+    if name.endswith('.sources'):
+        return re.sub(r'^Types:.*$', 'Types: deb-src', text, flags=re.M | re.I)
+    return ''.join(re.sub(r'^\s*deb(\s)', r'deb-src\1', line) for line in text.splitlines(True) if re.match(r'\s*deb\s', line))
+
+
+def private_apt(folder):
+    """The words of an apt-get that reads and writes only below folder, and of the machine reads the status file."""
+    parts, paths = os.path.join(folder, 'parts'), ('parts', 'state/lists/partial', 'cache/archives/partial')
+    for path in paths:
+        os.makedirs(os.path.join(folder, path))
+    lists, status = machine_sources()
+    for place, path in enumerate(lists):
+        with open(path, encoding='utf-8') as file:
+            text = as_source(path, file.read())
+        # numbered, since two lists may have one name
+        with open(os.path.join(parts, f'{place}-{os.path.basename(path)}'), 'w', encoding='utf-8') as file:
+            file.write(text)
+    options = {'Dir::Etc::sourcelist': '/dev/null', 'Dir::Etc::sourceparts': parts, 'Dir::State': os.path.join(folder, 'state'),
+               'Dir::State::status': status, 'Dir::Cache': os.path.join(folder, 'cache'), 'APT::Get::AllowUnauthenticated': 'false',
+               'Acquire::AllowInsecureRepositories': 'false'}
+    return ['apt-get', '-q'] + [word for name, value in options.items() for word in ('-o', f'{name}={value}')]
+
+
+def fetch(folder):
+    """Fetches the source package of libgsm; its version, and the path of the source as upstream gave it."""
+    apt = private_apt(folder)
+    # one source that does not answer must not stop the others: what counts is whether the package comes
+    _, updated = run(apt + ['update'], folder)
+    status, said = run(apt + ['source', '--download-only', 'libgsm'], folder)
+    originals, descriptions = glob.glob(os.path.join(folder, 'libgsm_*.orig.tar.*')), glob.glob(os.path.join(folder, 'libgsm_*.dsc'))
+    originals = [path for path in originals if not path.endswith('.asc')]
+    if status != 0 or len(originals) != 1 or len(descriptions) != 1:
+        raise Missing(f"Debian's source package of libgsm could not be fetched:\n{updated}{said}")
+    return os.path.basename(descriptions[0])[len('libgsm_'):-len('.dsc')], originals[0]
+
+
+def compile_library(folder, source):
+    """Compiles the codec's files. Debian's patches are to its Makefile, its tools and its manual, and are not needed for that."""
+    with tarfile.open(source) as archive:
+        archive.extractall(folder)
+    top = os.path.dirname(os.path.dirname(glob.glob(os.path.join(folder, '*', 'src', 'code.c'))[0]))
+    with open(os.path.join(top, 'src', 'layout.c'), 'w', encoding='ascii') as file:
+        file.write(LAYOUT)
+    files = [os.path.join('src', f'{name}.c') for name in CODEC + ('layout',)]
+    flags = ['-O2', '-w', '-fPIC', '-shared', '-DSASR', '-DNeedFunctionPrototypes=1', '-Iinc']
+    status, said = run(['gcc', *flags, '-o', LIBRARY + '.new', *files], top)
+    if status != 0:
+        raise Missing(f'libgsm could not be compiled:\n{said}')
+    os.replace(LIBRARY + '.new', LIBRARY)
+    return ' '.join(['gcc', *flags])
+
+
+def build():
+    """Builds the library if it is not there."""
+    if os.path.exists(LIBRARY) and os.path.exists(NAME):
+        return
+    folder = os.path.join(os.path.abspath(BUILD), 'libgsm')
+    shutil.rmtree(folder, ignore_errors=True)
+    os.makedirs(folder)
+    version, source = fetch(folder)
+    command = compile_library(folder, source)
+    with open(NAME, 'w', encoding='utf-8') as file:
+        file.write(f"libgsm {version}, Debian's source package, compiled on integers: {command}\n")
+    shutil.rmtree(folder)
+
+
+def main():
+    try:
+        build()
+    except Missing as missing:
+        print(missing)
+        return 1
+    with open(NAME, encoding='utf-8') as file:
+        print(file.read(), end='')
+    return 0
+
+
+if __name__ == '__main__':
+    sys.exit(main())

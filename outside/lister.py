@@ -1,0 +1,196 @@
+"""The lister's other runs: what it does with lengths, pieces, an input that cannot be read, an output that cannot be written, the limit.
+
+Its programs cannot set an exit status. What they can do is say it on standard error, and end."""
+import os
+import platform
+import random
+import subprocess
+import threading
+import time
+from array import array
+
+import signals
+from differences import Difference, at, first_place, kept, same_lines
+from peers import BUILD, PROGRAM, ours, second
+
+# a lister that waits for ever is ended after so many seconds; an emulator takes some to start, and many for the limit
+PATIENCE, LONG = 30, 3600
+FRAMES = 1000000
+SILENT = ('F\t{0}\tsilent\t32\t32\t20\t11\t8\t5\t3\t2\n'
+          + ''.join('S\t{0}\t%d\trule\t40\t0\t0\t0%s\n' % (j, '\t4' * 13) for j in range(1, 5)))
+
+
+def speech():
+    with open(signals.SPEECH, 'rb') as file:
+        return file.read()
+
+
+def inputs():
+    """Of each input its name and its bytes."""
+    voice, tone = speech(), array('h', signals.stopping(160 * 24, 2.105)).tobytes()
+    for length in (0, 1, 2, 319, 320, 323, 640, 641, len(voice) - 1):
+        yield f'speech cut to {length} bytes', voice[:length]
+    yield '323 bytes, all 0', bytes(323)
+    yield 'a stopped recursion', tone
+    yield 'speech', voice
+
+
+def whole_inputs():
+    stops, names = 0, []
+    for name, given in inputs():
+        answer = ours('lister', given)
+        same_lines(name, given, {'the second codec': second('list', given), 'ours': answer})
+        stops += answer.count(b'\tstop')
+        names.append(name)
+    if not stops:
+        raise Difference('the lister: no input stopped the recursion')
+    print(f'lister: {", ".join(names)}: as the second codec lists them; {stops} frames stopped')
+
+
+def watched(process, seconds):
+    """Ends a process that has not ended by itself in so many seconds; what it wrote until then will not do."""
+    watch = threading.Timer(seconds, process.kill)
+    watch.daemon = True
+    watch.start()
+    return watch
+
+
+def write_pieces(stream, given, dice):
+    place = 0
+    while place < len(given):
+        size = dice.choice((1, 2, 3, dice.randint(1, 700), 320, 319))
+        stream.write(given[place:place + size])
+        place += size
+        time.sleep(dice.choice((0, 0, 0.001, 0.004)))
+
+
+def in_pieces(seed):
+    """Speech through a pipe in pieces of 1 to 700 bytes, with pauses."""
+    given, answers = speech(), []
+    with subprocess.Popen([PROGRAM, 'lister'], stdin=subprocess.PIPE, stdout=subprocess.PIPE, bufsize=0) as process:
+        watch = watched(process, PATIENCE)
+        reader = threading.Thread(target=lambda: answers.append(process.stdout.readall()))
+        reader.start()
+        try:
+            write_pieces(process.stdin, given, random.Random(seed))
+        except BrokenPipeError:
+            # it has ended before its input did; the listing shows it
+            pass
+        process.stdin.close()
+        reader.join()
+        watch.cancel()
+    same_lines(f'speech in pieces, seed {seed}', given, {'the second codec': second('list', given), 'ours': answers[0]})
+
+
+def ended(name, words, **streams):
+    """Runs the lister to its end, which must come; its status, what it wrote and what it said."""
+    try:
+        done = subprocess.run(words, stderr=subprocess.PIPE, timeout=PATIENCE, **streams)
+    except subprocess.TimeoutExpired:
+        raise Difference(f'the lister with {name} has not ended in {PATIENCE} s') from None
+    return done.returncode, done.stdout or b'', done.stderr
+
+
+def unreadable():
+    """An input that is closed, or a folder: it says so and does not give an E line."""
+    closed = ended('a closed input', ['sh', '-c', 'exec "$0" lister <&-', PROGRAM], stdout=subprocess.PIPE)
+    folder = os.open(BUILD, os.O_RDONLY)
+    try:
+        listed = ended('a folder as its input', [PROGRAM, 'lister'], stdin=folder, stdout=subprocess.PIPE)
+    finally:
+        os.close(folder)
+    for name, (_, written, said) in (('a closed input', closed), ('a folder as its input', listed)):
+        if not said.strip():
+            raise Difference(f'the lister with {name} says nothing on standard error')
+        if any(line.startswith(b'E\t') for line in written.splitlines()):
+            raise Difference(f'the lister with {name} gives an E line: {written[-40:]!r}')
+        print(f'lister: {name}: no E line, and it says: {said.decode(errors="replace").strip()}')
+
+
+def unwritable():
+    """An output that is full, or closed early: it says so, or dies of it, and ends."""
+    path = os.path.join(BUILD, '..', kept('long.raw', 20 * speech()))
+    with open(path, 'rb') as given, open('/dev/full', 'wb') as full:
+        status, _, said = ended('a full output', [PROGRAM, 'lister'], stdin=given, stdout=full)
+    told('a full output', status, said)
+    with open(path, 'rb') as given, subprocess.Popen([PROGRAM, 'lister'], stdin=given, stdout=subprocess.PIPE, stderr=subprocess.PIPE) as process:
+        process.stdout.read(1000)
+        process.stdout.close()
+        try:
+            status, said = process.wait(PATIENCE), process.stderr.read()
+        except subprocess.TimeoutExpired:
+            process.kill()
+            raise Difference(f'the lister with an output closed early has not ended in {PATIENCE} s') from None
+    told('an output closed early', status, said)
+    os.remove(path)
+
+
+def told(name, status, said):
+    # a shell and an emulator hand on death by SIGPIPE as 128 + 13
+    died = status in (-13, 141)
+    if not said.strip() and not died:
+        raise Difference(f'the lister with {name} says nothing on standard error and ends with status {status}')
+    print(f'lister: {name}: it ends{", by SIGPIPE" if died else ""}{", and says: " + said.decode(errors="replace").strip() if said.strip() else ""}')
+
+
+def other_runs():
+    whole_inputs()
+    for seed in range(3):
+        in_pieces(seed)
+    print('lister: speech in pieces of 1 to 700 bytes with pauses, three times: as the second codec lists it')
+    unreadable()
+    unwritable()
+    if emulated():
+        print('NOT RUN: the limit of 1,000,000 frames, which takes minutes where the programs are emulated: make soak runs it')
+    else:
+        limit()
+
+
+# ---- the limit
+
+def emulated():
+    return platform.machine() != 'x86_64'
+
+
+def feed(stream, more):
+    try:
+        for _ in range(FRAMES // 1000):
+            stream.write(bytes(320 * 1000))
+        stream.write(bytes(more))
+        stream.close()
+    except BrokenPipeError:
+        pass
+
+
+def expected(last):
+    """The listing of 1,000,000 frames of silence, in parts."""
+    yield b'RPELTP\t1\n'
+    for start in range(1, FRAMES + 1, 1000):
+        yield ''.join(SILENT.format(number) for number in range(start, start + 1000)).encode()
+    yield f'E\t{FRAMES}\t0\t0\t{last}\n'.encode()
+
+
+def limit_run(more, last):
+    began = time.monotonic()
+    with subprocess.Popen([PROGRAM, 'lister'], stdin=subprocess.PIPE, stdout=subprocess.PIPE) as process:
+        watch = watched(process, LONG)
+        feeder = threading.Thread(target=feed, args=(process.stdin, more), daemon=True)
+        feeder.start()
+        for part in expected(last):
+            got = process.stdout.read(len(part))
+            if got != part:
+                process.kill()
+                want, got = part.splitlines(), got.splitlines()
+                line = first_place(want, got)
+                raise Difference(f'the lister on {320 * FRAMES + more} bytes, all 0: {at(want, line)!r} must come, {at(got, line)!r} comes')
+        if process.stdout.read(1):
+            process.kill()
+            raise Difference('the lister goes on after its E line')
+        feeder.join()
+        watch.cancel()
+    print(f'lister: {320 * FRAMES + more} bytes of silence end in {last}, every line as it must be ({time.monotonic() - began:.0f} s)')
+
+
+def limit():
+    limit_run(0, 'end')
+    limit_run(1, 'limit')

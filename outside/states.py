@@ -1,0 +1,209 @@
+"""Single calls from any state, as records for the programs `calls`: made up by rule and by seeded chance.
+
+A record has 440 words: 0 the call (1 encode, 2 decode, 3 pack, 4 unpack), 1 to 3 how many samples, codewords and bytes are lent, 8 to 147
+the state, 148 to 315 room for samples, 316 to 399 for codewords, 400 to 439 for bytes. An answer has the same layout, with the refusal
+number at 0, the ending at 1 and the marks from 2 on."""
+import itertools
+import random
+from array import array
+
+from clause4 import Coder, Decoder
+from operations import mult_r, saturate
+from signals import ENDS, VALID, WIDTHS, noise, random_coder, random_decoder, random_frames, random_words, swell, words
+
+ENCODE, DECODE, PACK, UNPACK = 1, 2, 3, 4
+CALLS = {ENCODE: 'encode', DECODE: 'decode', PACK: 'pack', UNPACK: 'unpack'}
+WORDS, STATE, SAMPLES, CODEWORDS, BYTES = 440, 8, 148, 316, 400
+ROOMS, LENT, MOST = {1: 'samples', 2: 'codewords', 3: 'bytes'}, {1: 160, 2: 76, 3: 33}, {1: 168, 2: 84, 3: 40}
+# which of the three each call is lent
+TAKES = {ENCODE: (1, 2), DECODE: (1, 2), PACK: (2, 3), UNPACK: (2, 3)}
+# 01's bounds of a sound state: of z1, of L_z2 - 32768 z1, and of the remembered lag
+Z1, EXCESS, LAG = (-16384, 16380), (-536740337, 536871409), (40, 120)
+# what home does not reach; each number by each call that gives it; the endings as an answer has them
+CLIPS, ON_PURPOSE = ['pre-emphasis clipped', 'abs(-32768) in 4.2.4', '26112 clipped'], 'on purpose: '
+DONE = ['encode 0', 'decode 0', 'pack 0', 'unpack 0']
+REFUSALS = ['encode 1', 'encode 2', 'encode 3', 'decode 1', 'decode 2', 'decode 3', 'pack 2', 'pack 4', 'pack 5', 'unpack 2', 'unpack 4', 'unpack 6']
+ENDING_NAMES = {1: 'silent', 2: 'complete', **{16 + n: f'stop{n}' for n in range(1, 9)}}
+
+
+# ---- states
+
+def quiet(dice, call, level):
+    """A sound state with small values, such as a run from home may have."""
+    small = list(noise(dice, 137, level))
+    if call == ENCODE:
+        return Coder(small[0] // 2, 32768 * (small[0] // 2) + 100 * small[1], small[0], small[1:9], small[9:17], small[17:])
+    return Decoder(small[17:], dice.randint(*LAG), small[1:9], small[9:17], small[0])
+
+
+def as_words(state):
+    """A state as the 140 words of a record."""
+    if isinstance(state, Coder):
+        return [state.z1, state.L_z2, state.L_z2 >> 16, state.mp, *state.LARpp, *state.u, *state.dp]
+    return [state.nrp, state.msr, *state.LARpp, *state.v, *state.dp, 4711, -4711]
+
+
+# ---- records
+
+def record(dice, call, state=None, samples=None, codewords=None, packed=None, lent=None):
+    """A record. What is not given, and whatever a call must not look at or touch, is any words, in the widths of its room."""
+    lent = {**LENT, **(lent or {})}
+    filled = list(random_words(dice, WORDS))
+    filled[0], filled[1:4] = call, [lent[1], lent[2], lent[3]]
+    filled[STATE:SAMPLES] = as_words(state or (random_coder(dice) if call == ENCODE else random_decoder(dice)))
+    if samples is not None:
+        filled[SAMPLES:SAMPLES + len(samples)] = samples
+    coded = random_frames(dice, 2)[:84] if codewords is None else codewords
+    filled[CODEWORDS:CODEWORDS + len(coded)] = coded
+    filled[BYTES:] = [x & 255 for x in filled[BYTES:]]
+    if packed is None:
+        filled[BYTES + 32] &= 15
+    else:
+        filled[BYTES:BYTES + 33] = packed
+    return array('H', [x & 65535 for x in filled])
+
+
+def met_on_purpose(dice):
+    """What no run from home meets: the clip of pre-emphasis, abs(-32768) in 4.2.4, the clip of the sum with 26112."""
+    for mp, first in ((32767, -32768), (-32768, 32767)):
+        state = Coder(mp=mp, LARpp=words(dice, 8), u=words(dice, 8), dp=words(dice, 120))
+        yield f'{ON_PURPOSE}pre-emphasis from {mp}', record(dice, ENCODE, state, [first] + list(noise(dice, 159, 3000)))
+    for end in ENDS:
+        state, hum = Coder(LARpp=[end] * 8), [x + (20000 if end < 0 else 0) for x in noise(dice, 160, 50)]
+        alternating = [x * (-1) ** i for i, x in enumerate([20000] * 160)]
+        yield f'{ON_PURPOSE}ratios of {end}', record(dice, ENCODE, state, hum if end < 0 else alternating)
+        coded = random_frames(dice, 1)
+        coded[:8] = VALID[:8] if end > 0 else [0] * 8
+        yield f'{ON_PURPOSE}ratios of {end} to decode with', record(dice, DECODE, Decoder(LARpp=[end] * 8), codewords=coded)
+
+
+def around(bounds):
+    """Just outside and just inside each of two bounds."""
+    low, high = bounds
+    return low - 1, low, high, high + 1
+
+
+def edges_of_soundness(dice):
+    for z1 in (-32768, *around(Z1), 32767):
+        for excess in (*around(EXCESS), 0):
+            state = random_coder(dice)
+            state.z1, state.L_z2 = z1, saturate(32768 * z1 + excess, 32)
+            yield f'z1 {z1}, L_z2 {state.L_z2}', record(dice, ENCODE, state)
+        for L_z2 in (-2147483648, 2147483647, 0):
+            state = random_coder(dice)
+            state.z1, state.L_z2 = z1, L_z2
+            yield f'z1 {z1}, L_z2 {L_z2}', record(dice, ENCODE, state)
+    for lag in (-32768, -1, 0, *around(LAG), 127, 168, 32767):
+        state = random_decoder(dice)
+        state.nrp = lag
+        yield f'a remembered lag of {lag}', record(dice, DECODE, state)
+
+
+def unsound(dice, call):
+    state = random_coder(dice) if call == ENCODE else random_decoder(dice)
+    if call == ENCODE:
+        state.z1 = dice.choice((-16385, 16381))
+    else:
+        state.nrp = dice.choice((39, 121))
+    return state
+
+
+def all_refused(dice, call, lent):
+    return record(dice, call, unsound(dice, call), codewords=words(dice, 84), packed=[255] * 33, lent=lent)
+
+
+def wrong_lengths(dice):
+    """Each wrong length by itself, two at once, and with what is refused by a higher number besides."""
+    for call in CALLS:
+        for what in LENT:
+            for length in (0, LENT[what] - 1, LENT[what] + 1, MOST[what]):
+                name = f'{CALLS[call]} with {length} {ROOMS[what]}'
+                yield name, record(dice, call, lent={what: length})
+                yield name + ', all else refused too', all_refused(dice, call, {what: length})
+        lent = {what: LENT[what] - 1 for what in TAKES[call]}
+        yield f'{CALLS[call]} with both lengths wrong', record(dice, call, lent=lent)
+        yield f'{CALLS[call]}, all but the lengths refused', all_refused(dice, call, {})
+
+
+def wide_and_spare(dice):
+    for place, width in enumerate(WIDTHS):
+        for value in {1 << width, 32768, -1, VALID[place]}:
+            coded = random_frames(dice, 1)
+            coded[place] = value
+            yield f'pack with codeword {place} at {value}', record(dice, PACK, codewords=coded)
+    for top in range(16):
+        packed = list(dice.randbytes(33))
+        packed[32] = packed[32] & 15 | top << 4
+        yield f'unpack with spare bits {top}', record(dice, UNPACK, packed=packed)
+
+
+def homes(dice):
+    yield 'home, silence', record(dice, ENCODE, Coder(), [0] * 160)
+    yield 'home, any words', record(dice, ENCODE, Coder())
+    yield 'home, any frame', record(dice, DECODE, Decoder())
+    # from here scale 4 turns a sample over
+    yield 'a sample turned over', record(dice, ENCODE, Coder(z1=-16384, L_z2=397), [32767] + [0] * 159)
+
+
+def stopping(dice):
+    """Swelling tones, from home: the recursion stops in most."""
+    for period in (2, 2.105, 2.667, 4, 4.2, 8, 80, 160, 320):
+        for level, length, power in itertools.product((8000, 20000, 32767), (80, 160), (2, 4)):
+            tone = swell(160, period, level, length, power)
+            yield f'home, a swelling tone of period {period}, {level}, {length}, {power}', record(dice, ENCODE, Coder(), tone)
+
+
+FIXED = (met_on_purpose, edges_of_soundness, wrong_lengths, wide_and_spare, homes, stopping)
+
+
+def by_chance(dice):
+    """One call, mostly from a sound state and not refused."""
+    call = dice.choices(list(CALLS), (10, 8, 1, 1))[0]
+    level = 2 ** dice.randint(0, 15) - 1
+    samples = noise(dice, 160, level) if dice.random() < 0.7 else words(dice, 160)
+    state = quiet(dice, call, level) if dice.random() < 0.4 else None
+    coded = words(dice, 84) if call == DECODE and dice.random() < 0.3 else None
+    return f'{CALLS[call]} by chance', record(dice, call, state, samples, coded)
+
+
+def records(seed, count):
+    """That many records at the least, with the name of each."""
+    dice = random.Random(f'{seed} calls')
+    made = [named for make in FIXED for named in make(dice)]
+    while len(made) < count:
+        made.append(by_chance(dice))
+    return made
+
+
+# ---- what an answer shows
+
+def signed(values):
+    return [x - 65536 if x > 32767 else x for x in values]
+
+
+def pre_emphasised(samples, z1, L_z2, mp):
+    """4.2.1 to 4.2.3 on whole numbers: each s before it is clipped."""
+    for sample in samples:
+        so = (sample >> 3) * 4
+        L_z2, z1 = (so - z1) * 32768 + (L_z2 >> 15) * 32735 + mult_r(L_z2 & 32767, 32735), so
+        sof = L_z2 + 16384 >> 15
+        yield sof + mult_r(mp, -28180)
+        mp = sof
+
+
+def clips_met(given, answer):
+    """Which of the three that home does not reach a call met, by a computation of its own: 4.2.3, and 4.2.9.1 from the ratios before and
+    after."""
+    found, was, now = set(), signed(given[STATE:SAMPLES]), signed(answer[STATE:SAMPLES])
+    place = 4 if given[0] == ENCODE else 2
+    if given[0] == ENCODE:
+        s = list(pre_emphasised(signed(given[SAMPLES:SAMPLES + 160]), was[0], was[2] * 65536 + (was[1] & 65535), was[3]))
+        if min(s) < -32768 or max(s) > 32767:
+            found.add(CLIPS[0])
+        if min(s) <= -32768:
+            found.add(CLIPS[1])
+    for before, after in zip(was[place:place + 8], now[place:place + 8]):
+        stretches = (before >> 2) + (after >> 2) + (before >> 1), (before >> 1) + (after >> 1), (before >> 2) + (after >> 2) + (after >> 1)
+        if any((abs(ratio) >> 2) + 26112 > 32767 for ratio in stretches):
+            found.add(CLIPS[2])
+    return found
