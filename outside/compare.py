@@ -30,7 +30,7 @@ import states
 from differences import Difference, first_place, kept, same_lines, same_words
 
 ENDINGS = ['silent', 'complete'] + [f'stop{n}' for n in range(1, 9)]
-MARKS = ['rule', 'found']
+MARKS = list(states.MARK_NAMES.values())
 # what every run has to meet: stop1 is never reached
 MET = [name for name in ENDINGS + MARKS if name != 'stop1']
 
@@ -147,7 +147,7 @@ def calls(seed, count):
                 if value != answer[place]:
                     differs(seed, number, (name, record), place, {'the others': answer[place], 'libgsm': value})
         if answer[0] == 0 and record[0] == states.ENCODE:
-            met.update([states.ENDING_NAMES[answer[1]]] + [MARKS[mark - 1] for mark in answer[2:6]])
+            met.update([states.ENDING_NAMES[answer[1]]] + [states.MARK_NAMES[mark] for mark in answer[2:6]])
     return len(made), met
 
 

@@ -3,7 +3,6 @@ import os
 import random
 from array import array
 
-import clause4
 import peers
 import states
 from differences import Difference, same_bytes
@@ -11,13 +10,18 @@ from differences import Difference, same_bytes
 # Table A3.1 of 001: frames of each sequence; the last has no samples to encode
 SEQUENCES = {'SEQ01': 584, 'SEQ02': 947, 'SEQ03': 673, 'SEQ04': 520, 'SEQ05': 64}
 FRAME_BYTES = {'INP': 320, 'COD': 152, 'OUT': 320}
-# of each vector so many frames go through the slow model that trials.py needs
-MODELLED = 25
 
 
 def contents(path):
     with open(path, 'rb') as file:
         return file.read()
+
+
+def frames(path, size):
+    """The whole frames of a file, of size words each."""
+    raw = contents(path)
+    words = array('h', raw[:len(raw) // (2 * size) * (2 * size)])
+    return [words[place:place + size].tolist() for place in range(0, len(words), size)]
 
 
 def by_both(name, mode, program, given, source, expected):
@@ -37,7 +41,7 @@ def named(folder, ending):
 def packed_by_calls(path):
     """The frames of a vector packed and unpacked by single calls of both."""
     dice, expected, asked = random.Random(path), [], []
-    for codewords, place in zip(clause4.frames(contents(path + '.cod'), 76), range(0, 10 ** 9, 33)):
+    for codewords, place in zip(frames(path + '.cod', 76), range(0, 10 ** 9, 33)):
         packed = list(contents(path + '.pack')[place:place + 33])
         for call, given in ((states.PACK, {'codewords': codewords}), (states.UNPACK, {'packed': packed})):
             record = states.record(dice, call, **given)
@@ -47,21 +51,6 @@ def packed_by_calls(path):
             record[states.BYTES:states.BYTES + 33] = array('H', packed)
             expected.append(record.tobytes())
     by_both(f'{path}: packed and unpacked', 'calls', 'calls', b''.join(asked), 'the file', b''.join(expected))
-
-
-def modelled(path):
-    """The slow model on the first frames of a vector: samples to codewords if there are any, codewords to samples."""
-    if os.path.exists(path + '.raw'):
-        raw = contents(path + '.raw')[:320 * MODELLED]
-        coded = b''.join(array('h', codewords).tobytes() for codewords, _, _ in clause4.encoded(raw))
-        same_bytes(f'{path}.cod', ('the file', contents(path + '.cod')[:152 * MODELLED]), ('clause4.py', coded))
-        if len(contents(path + '.raw')) == len(raw):
-            same_bytes(f'{path}.lst', ('the file', contents(path + '.lst')), ('clause4.py', clause4.listing(raw)))
-    state, samples = clause4.Decoder(), array('h')
-    for codewords in clause4.frames(contents(path + '.cod'), 76)[:MODELLED]:
-        state, answer = clause4.decode(state, codewords)
-        samples.extend(answer)
-    same_bytes(f'{path}.out', ('the file', contents(path + '.out')[:320 * MODELLED]), ('clause4.py', samples.tobytes()))
 
 
 def encoder_vector(path):
@@ -91,9 +80,6 @@ def vectors(folder):
     print('vectors, by ours and by the second codec:')
     print(f'{sum(map(encoder_vector, to_encode))} frames of {len(to_encode)} files encoded, listed, packed and unpacked: no difference')
     print(f'{sum(map(decoder_vector, to_decode))} frames of {len(to_decode)} files decoded: no difference')
-    for path in to_decode:
-        modelled(path)
-    print(f'the first {MODELLED} frames of each by the slow model, clause4.py: no difference')
 
 
 # ---- the published sequences

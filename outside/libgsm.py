@@ -6,6 +6,7 @@
 Debian's own amd64 build searches its lags in floating point (USE_FLOAT_MUL) and is not the standard's codec; this one is made without
 that flag on every kind of machine. The source is fetched by apt, which checks its signature and hashes, over lists of its own: the
 machine's package sources with deb-src for deb. Nothing of the machine's own lists is altered. Status 1: it could not be had."""
+import ctypes
 import glob
 import os
 import re
@@ -15,14 +16,12 @@ import sys
 import tarfile
 
 BUILD = os.path.join(os.path.dirname(os.path.abspath(__file__)), '..', 'build')
-LIBRARY, NAME = os.path.join(BUILD, 'libgsm.so'), os.path.join(BUILD, 'libgsm.txt')
+LIBRARY, HEADER, NAME = (os.path.join(BUILD, f'libgsm.{ending}') for ending in ('so', 'h', 'txt'))
 # what toast.c and its companions have is the command line tool's
 CODEC = ('add', 'code', 'decode', 'gsm_create', 'gsm_decode', 'gsm_destroy', 'gsm_encode', 'gsm_explode', 'gsm_implode', 'gsm_option',
          'long_term', 'lpc', 'preprocess', 'rpe', 'short_term', 'table')
-FIELDS = ('dp0', 'z1', 'L_z2', 'mp', 'u', 'LARpp', 'j', 'nrp', 'v', 'msr')
-# tells where in its state libgsm has what it carries, so that nobody has to know the layout of this or that version
-LAYOUT = '#include <stddef.h>\n#include "private.h"\nconst size_t layout[] = {%s, sizeof(longword)};\n' % ', '.join(
-    f'offsetof(struct gsm_state, {field})' for field in FIELDS)
+# C's types of what libgsm carries, by the names that its source has for them
+TYPES = {'word': ctypes.c_short, 'longword': ctypes.c_long, 'int': ctypes.c_int, 'char': ctypes.c_char, 'unsigned char': ctypes.c_ubyte}
 
 
 class Missing(Exception):
@@ -88,15 +87,28 @@ def compile_library(folder, source):
     with tarfile.open(source) as archive:
         archive.extractall(folder)
     top = os.path.dirname(os.path.dirname(glob.glob(os.path.join(folder, '*', 'src', 'code.c'))[0]))
-    with open(os.path.join(top, 'src', 'layout.c'), 'w', encoding='ascii') as file:
-        file.write(LAYOUT)
-    files = [os.path.join('src', f'{name}.c') for name in CODEC + ('layout',)]
+    shutil.copy(os.path.join(top, 'inc', 'private.h'), HEADER)
+    files = [os.path.join('src', f'{name}.c') for name in CODEC]
     flags = ['-O2', '-w', '-fPIC', '-shared', '-DSASR', '-DNeedFunctionPrototypes=1', '-Iinc']
     status, said = run(['gcc', *flags, '-o', LIBRARY + '.new', *files], top)
     if status != 0:
         raise Missing(f'libgsm could not be compiled:\n{said}')
     os.replace(LIBRARY + '.new', LIBRARY)
     return ' '.join(['gcc', *flags])
+
+
+def state_type():
+    """What libgsm carries, as its own header declares it, so that nobody has to know the layout of this or that version."""
+    with open(HEADER, encoding='latin-1') as file:
+        text = re.sub(r'/\*.*?\*/', '', file.read(), flags=re.S)
+    body = re.search(r'struct gsm_state \{(.*?)\n\};', text, re.S).group(1)
+    fields = []
+    for kind, name, sizes in re.findall(r'^\s*((?:unsigned )?\w+)\s+(\w+)\s*((?:\[[^]]*\])*)\s*;', re.sub(r'^\s*#.*$', '', body, flags=re.M), re.M):
+        type_ = TYPES[kind]
+        for size in reversed(re.findall(r'\d+', sizes)):
+            type_ = type_ * int(size)
+        fields.append((name, type_))
+    return type('State', (ctypes.Structure,), {'_fields_': fields})
 
 
 def build():

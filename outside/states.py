@@ -1,4 +1,5 @@
-"""Single calls from any state, as records for the programs `calls`: made up by rule and by seeded chance.
+"""The states that a codec carries, and single calls from any of them, as records for the programs `calls`: made up by rule and by seeded
+chance.
 
 A record has 440 words: 0 the call (1 encode, 2 decode, 3 pack, 4 unpack), 1 to 3 how many samples, codewords and bytes are lent, 8 to 147
 the state, 148 to 315 room for samples, 316 to 399 for codewords, 400 to 439 for bytes. An answer has the same layout, with the refusal
@@ -6,10 +7,10 @@ number at 0, the ending at 1 and the marks from 2 on."""
 import itertools
 import random
 from array import array
+from dataclasses import dataclass, field
 
-from clause4 import Coder, Decoder
 from operations import mult_r, saturate
-from signals import ENDS, VALID, WIDTHS, noise, random_coder, random_decoder, random_frames, random_words, swell, words
+from signals import ENDS, VALID, WIDTHS, noise, random_frames, random_words, swell
 
 ENCODE, DECODE, PACK, UNPACK = 1, 2, 3, 4
 CALLS = {ENCODE: 'encode', DECODE: 'decode', PACK: 'pack', UNPACK: 'unpack'}
@@ -19,14 +20,56 @@ ROOMS, LENT, MOST = {1: 'samples', 2: 'codewords', 3: 'bytes'}, {1: 160, 2: 76, 
 TAKES = {ENCODE: (1, 2), DECODE: (1, 2), PACK: (2, 3), UNPACK: (2, 3)}
 # 01's bounds of a sound state: of z1, of L_z2 - 32768 z1, and of the remembered lag
 Z1, EXCESS, LAG = (-16384, 16380), (-536740337, 536871409), (40, 120)
-# what home does not reach; each number by each call that gives it; the endings as an answer has them
+# what home does not reach; each number by each call that gives it; the endings and the marks as an answer has them
 CLIPS, ON_PURPOSE = ['pre-emphasis clipped', 'abs(-32768) in 4.2.4', '26112 clipped'], 'on purpose: '
 DONE = ['encode 0', 'decode 0', 'pack 0', 'unpack 0']
 REFUSALS = ['encode 1', 'encode 2', 'encode 3', 'decode 1', 'decode 2', 'decode 3', 'pack 2', 'pack 4', 'pack 5', 'unpack 2', 'unpack 4', 'unpack 6']
 ENDING_NAMES = {1: 'silent', 2: 'complete', **{16 + n: f'stop{n}' for n in range(1, 9)}}
+MARK_NAMES = {1: 'rule', 2: 'found'}
 
 
 # ---- states
+
+def zeros(count):
+    return field(default_factory=lambda: [0] * count)
+
+
+@dataclass
+class Coder:
+    """What the encoder carries from frame to frame, at home; dp is oldest first: dp[120 + i] here is the standard's dp[i]."""
+    z1: int = 0
+    L_z2: int = 0
+    mp: int = 0
+    LARpp: list = zeros(8)
+    u: list = zeros(8)
+    dp: list = zeros(120)
+
+
+@dataclass
+class Decoder:
+    """What the decoder carries, at home. dp is the standard's drp, oldest first. v[8] is written and never read, so it is not carried."""
+    dp: list = zeros(120)
+    nrp: int = 40
+    LARpp: list = zeros(8)
+    v: list = zeros(8)
+    msr: int = 0
+
+
+def words(dice, count):
+    """Words at random, some of them the ends of the range."""
+    return [dice.choice((-32768, 32767, dice.randint(-32768, 32767))) for _ in range(count)]
+
+
+def random_coder(dice):
+    """Any sound state."""
+    z1 = dice.randint(*Z1)
+    L_z2 = 32768 * z1 + dice.randint(*EXCESS)
+    return Coder(z1, L_z2, *words(dice, 1), words(dice, 8), words(dice, 8), words(dice, 120))
+
+
+def random_decoder(dice):
+    return Decoder(words(dice, 120), dice.randint(*LAG), words(dice, 8), words(dice, 8), *words(dice, 1))
+
 
 def quiet(dice, call, level):
     """A sound state with small values, such as a run from home may have."""
@@ -41,6 +84,13 @@ def as_words(state):
     if isinstance(state, Coder):
         return [state.z1, state.L_z2, state.L_z2 >> 16, state.mp, *state.LARpp, *state.u, *state.dp]
     return [state.nrp, state.msr, *state.LARpp, *state.v, *state.dp, 4711, -4711]
+
+
+def from_words(call, carried):
+    """The state that the 140 words of a record for that call are."""
+    if call == ENCODE:
+        return Coder(carried[0], carried[2] * 65536 + (carried[1] & 65535), carried[3], carried[4:12], carried[12:20], carried[20:140])
+    return Decoder(carried[18:138], carried[0], carried[2:10], carried[10:18], carried[1])
 
 
 # ---- records
@@ -194,15 +244,15 @@ def pre_emphasised(samples, z1, L_z2, mp):
 def clips_met(given, answer):
     """Which of the three that home does not reach a call met, by a computation of its own: 4.2.3, and 4.2.9.1 from the ratios before and
     after."""
-    found, was, now = set(), signed(given[STATE:SAMPLES]), signed(answer[STATE:SAMPLES])
-    place = 4 if given[0] == ENCODE else 2
+    found, place = set(), slice(STATE, SAMPLES)
+    was, now = from_words(given[0], signed(given[place])), from_words(given[0], signed(answer[place]))
     if given[0] == ENCODE:
-        s = list(pre_emphasised(signed(given[SAMPLES:SAMPLES + 160]), was[0], was[2] * 65536 + (was[1] & 65535), was[3]))
+        s = list(pre_emphasised(signed(given[SAMPLES:SAMPLES + 160]), was.z1, was.L_z2, was.mp))
         if min(s) < -32768 or max(s) > 32767:
             found.add(CLIPS[0])
         if min(s) <= -32768:
             found.add(CLIPS[1])
-    for before, after in zip(was[place:place + 8], now[place:place + 8]):
+    for before, after in zip(was.LARpp, now.LARpp):
         stretches = (before >> 2) + (after >> 2) + (before >> 1), (before >> 1) + (after >> 1), (before >> 2) + (after >> 2) + (after >> 1)
         if any((abs(ratio) >> 2) + 26112 > 32767 for ratio in stretches):
             found.add(CLIPS[2])

@@ -4,16 +4,22 @@
     python3 outside/trials.py VECTORS                 writes the files of crates/trials/specs
     python3 outside/trials.py VECTORS --compare       compares them with what it would write, but for the layout of the lines
 
-Samples and codewords are those of the vectors; the states between frames are those of clause4.py, which compare.py holds to the
-vectors and to libgsm. The frames of Made.antt show what no vector does, and are clause4.py's alone. Status 1: a difference."""
+Samples and codewords are those of the vectors; the states between frames, the endings and the marks are those of the second codec, which
+compare.py holds to the vectors, to libgsm and to spandsp. The frames of Made.antt show what no vector does, and their answers are the
+second codec's alone. It is built in build/ from outside/second. Status 1: a difference, or no second codec."""
 import argparse
 import os
 import random
 import re
 import sys
+from array import array
 
-from clause4 import Coder, Decoder, decode, encode, frames
-from signals import random_coder, random_decoder, swell, words
+import peers
+import states
+from differences import Difference
+from given import contents, frames
+from signals import swell
+from states import CODEWORDS, DECODE, ENCODE, SAMPLES, STATE, Coder, Decoder, random_coder, random_decoder, words
 
 SPECS = os.path.join(os.path.dirname(__file__), '..', 'crates', 'trials', 'specs')
 
@@ -101,7 +107,7 @@ def items(xs, name=number):
 
 
 def state(carried):
-    """A state as a record; the model's L_z2 is L-z2 there, its decoder's dp is drp."""
+    """A state as a record of the definitions: L_z2 is L-z2 there, a decoder's dp is drp."""
     names = {'L_z2': 'L-z2'} if isinstance(carried, Coder) else {'dp': 'drp'}
     fields = [f'{names.get(name, name)} = {items(value) if isinstance(value, list) else number(value)}' for name, value in vars(carried).items()]
     return 'record { ' + '; '.join(fields) + ' }'
@@ -119,31 +125,28 @@ def done(fields):
     return f'record {{ number = 0; {fields} }}'
 
 
-def encoded(name, seen, before, samples, given=None):
-    after, codewords, ending, marks = encode(before, samples)
-    if given not in (None, codewords):
-        sys.exit(f'{name}: the model and the vector differ')
-    call = f'encode ({state(before)}) ({items(samples)}) (replicate 76 (pos 0))'
-    shown = ' ∷ '.join([f'some {mark}' for mark in marks] + ['[]'])
-    answer = f'state = {state(after)}; ending = {ending_of(ending)}; marks = {shown}; codewords = {items(codewords)}'
-    return theorem(name, seen, call, done(answer))
+# ---- the second codec, a call at a time: its modes that take whole files show no state
+
+def answered(call, before, **lent):
+    """The state after a call from a state, and the words of the record that answers it."""
+    # what is not lent is any words: an answer that left some of them in place would show
+    asked = states.record(random.Random(0), call, before, **lent)
+    answer = array('h', peers.second('calls', asked.tobytes())).tolist()
+    if len(answer) != states.WORDS or answer[0] != 0:
+        raise Difference(f'the second codec refuses to {states.CALLS[call]}, or gives no whole record: {answer[:8]}')
+    return states.from_words(call, answer[STATE:SAMPLES]), answer
 
 
-def decoded(name, seen, before, codewords, given=None):
-    after, samples = decode(before, codewords)
-    if given not in (None, samples):
-        sys.exit(f'{name}: the model and the vector differ')
-    call = f'decode ({state(before)}) ({items(codewords)}) (replicate 160 (pos 0))'
-    return theorem(name, seen, call, done(f'state = {state(after)}; samples = {items(samples)}'))
+def encode(before, samples):
+    """The new state, the 76 codewords, how the recursion ended, the four marks."""
+    after, answer = answered(ENCODE, before, samples=samples)
+    return after, answer[CODEWORDS:CODEWORDS + 76], states.ENDING_NAMES[answer[1]], [states.MARK_NAMES[mark] for mark in answer[2:6]]
 
 
-def contents(folder, name):
-    with open(os.path.join(folder, name), 'rb') as file:
-        return file.read()
-
-
-def frames_of(folder, name, size):
-    return frames(contents(folder, name), size)
+def decode(before, codewords):
+    """The new state, the 160 samples."""
+    after, answer = answered(DECODE, before, codewords=codewords)
+    return after, answer[SAMPLES:SAMPLES + 160]
 
 
 def before(step, home, given, number):
@@ -153,9 +156,29 @@ def before(step, home, given, number):
     return home
 
 
+# ---- the theorems
+
+def encoded(name, seen, before, samples, given=None):
+    after, codewords, ending, marks = encode(before, samples)
+    if given not in (None, codewords):
+        raise Difference(f'{name}: the second codec and the vector differ')
+    call = f'encode ({state(before)}) ({items(samples)}) (replicate 76 (pos 0))'
+    shown = ' ∷ '.join([f'some {mark}' for mark in marks] + ['[]'])
+    answer = f'state = {state(after)}; ending = {ending_of(ending)}; marks = {shown}; codewords = {items(codewords)}'
+    return theorem(name, seen, call, done(answer))
+
+
+def decoded(name, seen, before, codewords, given=None):
+    after, samples = decode(before, codewords)
+    if given not in (None, samples):
+        raise Difference(f'{name}: the second codec and the vector differ')
+    call = f'decode ({state(before)}) ({items(codewords)}) (replicate 160 (pos 0))'
+    return theorem(name, seen, call, done(f'state = {state(after)}; samples = {items(samples)}'))
+
+
 def encoding(folder):
     for name, place, seen in ENCODED:
-        raw, cod = frames_of(folder, f'enc/{name}.raw', 160), frames_of(folder, f'enc/{name}.cod', 76)
+        raw, cod = frames(f'{folder}/enc/{name}.raw', 160), frames(f'{folder}/enc/{name}.cod', 76)
         yield encoded(f'{name.replace("_", "-")}-{place}', seen, before(encode, Coder(), raw, place), raw[place], cod[place])
 
 
@@ -169,15 +192,15 @@ def made(folder):
 
 def decoding(folder):
     for name, place, seen in DECODED:
-        cod, out = frames_of(folder, f'{name}.cod', 76), frames_of(folder, f'{name}.out', 160)
+        cod, out = frames(f'{folder}/{name}.cod', 76), frames(f'{folder}/{name}.out', 160)
         short = name.split('/')[1].replace('_', '-')
         yield decoded(f'{short}-{place}', seen, before(decode, Decoder(), cod, place), cod[place], out[place])
 
 
 def packing(folder):
     for name, place in PACKED:
-        codes = items(frames_of(folder, f'enc/{name}.cod', 76)[place])
-        bytes_ = items(contents(folder, f'enc/{name}.pack')[33 * place:33 * place + 33], str)
+        codes = items(frames(f'{folder}/enc/{name}.cod', 76)[place])
+        bytes_ = items(contents(f'{folder}/enc/{name}.pack')[33 * place:33 * place + 33], str)
         short = f'{name.replace("_", "-")}-{place}'
         yield theorem(f'{short}-packed', 'to bytes', f'pack ({codes}) (replicate 33 255)', done(f'bytes = {bytes_}'))
         yield theorem(f'{short}-unpacked', 'and back', f'unpack ({bytes_}) (replicate 76 (pos 1))', done(f'codewords = {codes}'))
@@ -185,8 +208,8 @@ def packing(folder):
 
 def listing(folder):
     for name in LISTED:
-        text = contents(folder, f'enc/{name}.lst').decode('ascii').replace('\t', '\\t').replace('\n', '\\n')
-        raw = contents(folder, f'enc/{name}.raw')
+        text = contents(f'{folder}/enc/{name}.lst').decode('ascii').replace('\t', '\\t').replace('\n', '\\n')
+        raw = contents(f'{folder}/enc/{name}.raw')
         yield theorem(name.replace('_', '-'), f'{len(raw)} bytes', f'listing ({items(raw, str)})', f'text "{text}"')
 
 
@@ -199,24 +222,33 @@ MAKERS = {
 }
 
 
+def written(path, text):
+    with open(path, 'w', encoding='utf-8') as file:
+        file.write(text)
+
+
+def compared(path, text):
+    with open(path, encoding='utf-8') as file:
+        if file.read().split() != text.split():
+            raise Difference(f'crates/trials/specs/{os.path.basename(path)} is not what trials.py writes')
+
+
 def main():
     parser = argparse.ArgumentParser(description=__doc__, formatter_class=argparse.RawDescriptionHelpFormatter)
     parser.add_argument('vectors')
     parser.add_argument('--compare', action='store_true')
     arguments = parser.parse_args()
-    for name, (title, maker) in MAKERS.items():
-        path, text = os.path.join(SPECS, f'{name}.antt'), whole(title, maker(arguments.vectors))
-        if not arguments.compare:
-            with open(path, 'w', encoding='utf-8') as file:
-                file.write(text)
-        else:
-            with open(path, encoding='utf-8') as file:
-                if file.read().split() != text.split():
-                    print(f'crates/trials/specs/{name}.antt is not what trials.py writes')
-                    return 1
+    try:
+        peers.build_second()
+        for name, (title, maker) in MAKERS.items():
+            path, text = os.path.join(SPECS, f'{name}.antt'), whole(title, maker(arguments.vectors))
+            (compared if arguments.compare else written)(path, text)
+    except (Difference, peers.Failed) as fault:
+        print(fault)
+        return 1
     if arguments.compare:
         print(f'crates/trials: {len(ENCODED) + len(MADE)} frames encoded, {len(DECODED) + len(MADE_DECODED)} decoded, {len(PACKED)} packed and unpacked, '
-              f'{len(LISTED)} inputs listed, as the vectors and the model have them')
+              f'{len(LISTED)} inputs listed, as the vectors and the second codec have them')
     return 0
 
 

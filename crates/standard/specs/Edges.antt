@@ -1,4 +1,4 @@
--- Clause 4's formulas where they change their branch or meet their clip. The values are outside/clause4.py's.
+-- Clause 4's formulas where they change their branch or meet their clip. The values were worked out on plain integers, apart from the definitions.
 use Prim.Native.Nat.{ℕ}
 use mathlib.Core.Path.{_≡_, refl}
 use mathlib.Core.List.{List, [], _∷_, map}

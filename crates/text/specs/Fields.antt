@@ -1,19 +1,15 @@
 -- Fields of a line, each after its tab; and how long a number's field can be.
-use Prim.Native.Nat.{ℕ, zero, suc, _+_, _*_, _/_, _%_, _^_, _≤_, _<_}
+use Prim.Native.Nat.{ℕ, zero, suc, _+_, _/_, _%_, _^_, _≤_, _<_}
 use mathlib.Core.Path.{_≡_, refl}
-use mathlib.Core.Bool.{true}
 use mathlib.Core.List.{List, [], _∷_, _++_, map, append-assoc, append-nil, map-append}
 use native.Mathlib.Numerals.{add-one}
 use native.Mathlib.Omega.{arith}
 use lib.Dec.{ltb}
-use lib.IntN.{ℤ, pos, natAbs}
+use lib.IntN.{ℤ, pos}
 use lib.ListN.{length, getD, take, drop, set, length-append, length-set}
 use lib.Seq.{take-suc, drop-cons, getD-set-same, drop-set-lt, append-snoc}
 use borrow.Author.Tests.{lt-ltb}
-use Rattle.integers.specs.Halves.{know}
 use Rattle.lists.specs.First.{first, first-until}
-use Rattle.lists.specs.Every.{every, every-cons}
-use Rattle.arithmetic.specs.Within as range
 use Rattle.standard.specs.Listing.{digits, decimal, word, line}
 
 -- each field after a tab
@@ -63,15 +59,3 @@ decimal-length n = digits-length (places n) n
 -- and below ten million at most seven
 pub places-most : (n : ℕ) → n < 10000000 → places n ≤ 7
 places-most n h = first-until (λ k. ltb n (10 ^ k)) n 1 7 (omega arith) (lt-ltb n 10000000 h)
-
--- so its field, with the tab, takes at most eight bytes
-pub field-most : (n : ℕ) → n < 10000000 → length (9 ∷ decimal n) ≤ 8
-field-most n h = omega (arith, decimal-length n, places-most n h)
-
--- and the fields of words take at most eight bytes each
-pub fields-most : (ws : List ℤ) → every range.word ws ≡ true → length (tabbed (map word ws)) ≤ 8 * length ws
-unfolding tabbed word
-fields-most [] e = omega arith
-fields-most (w ∷ ws) e =
-    let (g, h) = every-cons range.word w ws .0 e in
-    omega (arith, length-append (word w) (tabbed (map word ws)), field-most (natAbs w) (omega (arith, know (range.word-is w g))), fields-most ws h)

@@ -8,7 +8,7 @@ use crate::lpc::Ending;
 use crate::packing::{pack, unpack};
 use crate::records::*;
 
-/// The brief's table: the record that answers a record, or nothing if it is no call.
+/// A record: the record that answers a record, or nothing if it is no call.
 pub fn call(record: &Record) -> Option<Record> {
     let lent = lent_of(record)?;
     let mut answer = *record;

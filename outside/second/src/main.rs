@@ -27,7 +27,7 @@ use std::io::{self, BufWriter, Read, Write};
 use std::process::exit;
 use words::{words_of, write_words};
 
-/// The brief's modes: 0 for done, 1 for a refused frame, 2 for anything else.
+/// The modes: 0 for done, 1 for a refused frame, 2 for anything else.
 fn main() {
     let mode = std::env::args().nth(1).unwrap_or_default();
     match run(&mode) {
@@ -43,7 +43,7 @@ fn main() {
     }
 }
 
-/// The brief's modes: all of the input in one of them; gives the refusal number or 0.
+/// The modes: all of the input in one of them; gives the refusal number or 0.
 fn run(mode: &str) -> io::Result<i16> {
     let mut input = Vec::new();
     io::stdin().lock().read_to_end(&mut input)?;
@@ -61,12 +61,12 @@ fn run(mode: &str) -> io::Result<i16> {
     Ok(refusal)
 }
 
-/// The brief's modes: what ends the program with status 2.
+/// The modes: what ends the program with status 2.
 fn fault(words: &str) -> io::Error {
     io::Error::new(io::ErrorKind::InvalidInput, words)
 }
 
-/// The brief's modes: an incomplete last frame is not coded, and that is said.
+/// The modes: an incomplete last frame is not coded, and that is said.
 fn tell_rest(rest: usize) {
     if rest > 0 {
         eprintln!(
@@ -130,7 +130,7 @@ fn unpack(input: &[u8], output: &mut dyn Write) -> io::Result<i16> {
     Ok(0)
 }
 
-/// The brief's table: one call a record of 880 bytes.
+/// A record: one call a record of 880 bytes.
 fn calls(input: &[u8], output: &mut dyn Write) -> io::Result<i16> {
     for bytes in input.chunks_exact(880) {
         match calls::call(&words_of(bytes)) {

@@ -1,25 +1,25 @@
-//! The brief's table of a `calls` record: where each value stands among the 440 words.
+//! A record of `calls`: where each value stands among the 440 words.
 
 use crate::decoder::DecoderState;
 use crate::encoder::EncoderState;
 
-/// The brief's table: one call, or its answer.
+/// A record: one call, or its answer.
 pub type Record = [i16; 440];
 
-/// The brief's table: where the state, the samples, the codewords and the bytes start.
+/// A record: where the state, the samples, the codewords and the bytes start.
 const STATE: usize = 8;
 const SAMPLES: usize = 148;
 const CODEWORDS: usize = 316;
 const BYTES: usize = 400;
 
-/// The brief's table, words 1 to 3: how many of each are lent.
+/// A record, words 1 to 3: how many of each are lent.
 pub struct Lent {
     pub samples: i16,
     pub codewords: i16,
     pub bytes: i16,
 }
 
-/// The brief's table, words 1 to 3: nothing if more is lent than there is room for.
+/// A record, words 1 to 3: nothing if more is lent than there is room for.
 pub fn lent_of(record: &Record) -> Option<Lent> {
     let lent = Lent {
         samples: record[1],
@@ -36,7 +36,7 @@ pub fn lent_of(record: &Record) -> Option<Lent> {
     }
 }
 
-/// The brief's table: N words from a place on.
+/// A record: N words from a place on.
 fn words_at<const N: usize>(record: &Record, start: usize) -> [i16; N] {
     let mut words = [0; N];
     for n in 0..N {
@@ -45,14 +45,14 @@ fn words_at<const N: usize>(record: &Record, start: usize) -> [i16; N] {
     words
 }
 
-/// The brief's table: put words from a place on.
+/// A record: put words from a place on.
 fn put_words_at(record: &mut Record, start: usize, words: &[i16]) {
     for n in 0..words.len() {
         record[start + n] = words[n];
     }
 }
 
-/// The brief's table: an array that counts from 1, as 001 counts LARpp.
+/// A record: an array that counts from 1, as 001 counts LARpp.
 fn counted_from_1(words: [i16; 8]) -> [i16; 9] {
     let mut array = [0; 9];
     for i in 1..=8 {
@@ -61,7 +61,7 @@ fn counted_from_1(words: [i16; 8]) -> [i16; 9] {
     array
 }
 
-/// The brief's table, words 8 to 147 of an encode.
+/// A record, words 8 to 147 of an encode.
 pub fn encoder_state_of(record: &Record) -> EncoderState {
     let low = i32::from(record[STATE + 1]) & 0xFFFF;
     let high = i32::from(record[STATE + 2]) << 16;
@@ -75,7 +75,7 @@ pub fn encoder_state_of(record: &Record) -> EncoderState {
     }
 }
 
-/// The brief's table, words 8 to 147 of an encode.
+/// A record, words 8 to 147 of an encode.
 pub fn put_encoder_state(record: &mut Record, state: &EncoderState) {
     record[STATE] = state.z1;
     record[STATE + 1] = state.L_z2 as i16;
@@ -86,7 +86,7 @@ pub fn put_encoder_state(record: &mut Record, state: &EncoderState) {
     put_words_at(record, STATE + 20, &state.dp);
 }
 
-/// The brief's table, words 8 to 145 of a decode.
+/// A record, words 8 to 145 of a decode.
 pub fn decoder_state_of(record: &Record) -> DecoderState {
     let mut v = [0; 9];
     for i in 0..=7 {
@@ -101,7 +101,7 @@ pub fn decoder_state_of(record: &Record) -> DecoderState {
     }
 }
 
-/// The brief's table, words 8 to 145 of a decode; v[8] is never read, so it is not kept.
+/// A record, words 8 to 145 of a decode; v[8] is never read, so it is not kept.
 pub fn put_decoder_state(record: &mut Record, state: &DecoderState) {
     record[STATE] = state.nrp;
     record[STATE + 1] = state.msr;
@@ -110,27 +110,27 @@ pub fn put_decoder_state(record: &mut Record, state: &DecoderState) {
     put_words_at(record, STATE + 18, &state.drp);
 }
 
-/// The brief's table, words 148 to 307: the samples, when 160 are lent.
+/// A record, words 148 to 307: the samples, when 160 are lent.
 pub fn samples_of(record: &Record) -> [i16; 160] {
     words_at(record, SAMPLES)
 }
 
-/// The brief's table, words 148 to 307.
+/// A record, words 148 to 307.
 pub fn put_samples(record: &mut Record, samples: &[i16; 160]) {
     put_words_at(record, SAMPLES, samples);
 }
 
-/// The brief's table, words 316 to 391: the codewords, when 76 are lent.
+/// A record, words 316 to 391: the codewords, when 76 are lent.
 pub fn codewords_of(record: &Record) -> [i16; 76] {
     words_at(record, CODEWORDS)
 }
 
-/// The brief's table, words 316 to 391.
+/// A record, words 316 to 391.
 pub fn put_codewords(record: &mut Record, codewords: &[i16; 76]) {
     put_words_at(record, CODEWORDS, codewords);
 }
 
-/// The brief's table, words 400 to 432: the bytes, when 33 are lent, in the low halves.
+/// A record, words 400 to 432: the bytes, when 33 are lent, in the low halves.
 pub fn bytes_of(record: &Record) -> [u8; 33] {
     let mut bytes = [0; 33];
     for n in 0..=32 {
@@ -139,7 +139,7 @@ pub fn bytes_of(record: &Record) -> [u8; 33] {
     bytes
 }
 
-/// The brief's table, words 400 to 432.
+/// A record, words 400 to 432.
 pub fn put_bytes(record: &mut Record, bytes: &[u8; 33]) {
     for n in 0..=32 {
         record[BYTES + n] = i16::from(bytes[n]);

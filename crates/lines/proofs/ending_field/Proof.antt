@@ -1,6 +1,5 @@
 use Prim.Native.Nat.{_<_}
 use native.Mathlib.Omega.{arith}
-use mathlib.Core.Path.{_≡_}
 use borrow.Author.Needs.{needs}
 use Rattle.encoder.specs.Promise.{ending}
 use Rattle.standard.specs.Listing.{text, decimal, ending-text}

@@ -2,7 +2,6 @@ use Rattle.lines.proofs.mark_field.Statement.{statement}
 use Rattle.lines.proofs.mark_field.Tie as tie
 use borrow.Author.Needs.{needs}
 use native.Mathlib.Omega.{arith}
-use mathlib.Core.Path.{_≡_}
 use Rattle.encoder.specs.Promise.{mark}
 use Rattle.standard.specs.Listing.{text, mark-text}
 use Rattle.text.specs.Written.{puts-none}

@@ -6,7 +6,7 @@ use lib.ListN.{length, replicate}
 use borrow.Author.Needs.{needs}
 use Rattle.standard.specs.Files.{file-words}
 use Rattle.encoder.specs.Promise.{Encodes}
-use Rattle.listing.specs.Promise.{Lists, nothing, limit-keeps, refused-keeps, done-keeps}
+use Rattle.listing.specs.Promise.{nothing, limit-keeps, refused-keeps, done-keeps}
 use Rattle.listing.proofs.Lister.listed.Statement.{statement}
 use Rattle.listing.proofs.Lister.listed.Tie as tie
 
