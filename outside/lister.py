@@ -1,6 +1,7 @@
-"""The lister's other runs: what it does with lengths, pieces, an input that cannot be read, an output that cannot be written, the limit.
+"""The programs' other runs: what the lister does with lengths, pieces, an input that cannot be read, an output that cannot be written, the limit; what
+encode and decode do with bytes left over.
 
-Its programs cannot set an exit status. What they can do is say it on standard error, and end."""
+They cannot set an exit status. What they can do is say it on standard error, and end."""
 import os
 import platform
 import random
@@ -28,8 +29,10 @@ def speech():
 def inputs():
     """Of each input its name and its bytes."""
     voice, tone = speech(), array('h', signals.stopping(160 * 24, 2.105)).tobytes()
-    for length in (0, 1, 2, 319, 320, 323, 640, 641, len(voice) - 1):
-        yield f'speech cut to {length} bytes', voice[:length]
+    # from where it is loud: the recording begins with silence
+    loud = voice[len(voice) // 4:]
+    for length in (0, 1, 2, 319, 320, 323, 640, 641, len(loud) - 1):
+        yield f'speech cut to {length} bytes', loud[:length]
     yield '323 bytes, all 0', bytes(323)
     yield 'a stopped recursion', tone
     yield 'speech', voice
@@ -125,6 +128,16 @@ def unwritable():
     os.remove(path)
 
 
+def left_over():
+    """encode and decode, handed a frame and some bytes: the frame is coded, and the bytes are counted on standard error."""
+    for name, size, answer in (('encode', 320, 152), ('decode', 152, 320)):
+        for more in (0, 1, size - 1):
+            _, written, said = ended(f'{more} bytes left over', [PROGRAM, name], input=bytes(size + more), stdout=subprocess.PIPE)
+            if len(written) != answer or said.startswith(b'%d bytes' % more) != (more > 0) or bool(said) != (more > 0):
+                raise Difference(f'{name} with {more} bytes left over writes {len(written)} bytes and says {said!r}')
+    print('encode, decode: bytes left over after the last frame are not coded, and are counted on standard error')
+
+
 def told(name, status, said):
     # a shell and an emulator hand on death by SIGPIPE as 128 + 13
     died = status in (-13, 141)
@@ -140,6 +153,7 @@ def other_runs():
     print('lister: speech in pieces of 1 to 700 bytes with pauses, three times: as the second codec lists it')
     unreadable()
     unwritable()
+    left_over()
     if emulated():
         print('NOT RUN: the limit of 1,000,000 frames, which takes minutes where the programs are emulated: make soak runs it')
     else:

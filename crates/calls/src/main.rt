@@ -199,14 +199,15 @@ fn call(asked: Record) -> Record {
 // One record read and answered; whether to go on.
 fn turn() -> bool {
     let mut bytes = [0; 880];
-    if !streams::frame(&mut bytes) {
+    let got = streams::fill(&mut bytes);
+    if !streams::whole(got, 880) {
         return false;
     }
     let mut asked = [0; 440];
     files::words(&bytes, &mut asked);
     let answer = call(asked);
     files::bytes(&answer, &mut bytes);
-    streams::put(&bytes)
+    streams::written(io::write_all(1, &bytes))
 }
 
 // Nothing says that an input ends, so the turns are counted down.

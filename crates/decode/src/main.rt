@@ -10,7 +10,8 @@ struct After {
 // 76 codewords read, 160 samples written.
 fn turn(m: Decoder) -> After {
     let mut bytes = [0; 152];
-    if !streams::frame(&mut bytes) {
+    let got = streams::fill(&mut bytes);
+    if !streams::whole(got, 152) {
         return After {
             state: m,
             more: false,
@@ -25,7 +26,7 @@ fn turn(m: Decoder) -> After {
     files::bytes(&samples, &mut out);
     After {
         state: next,
-        more: streams::put(&out),
+        more: streams::written(io::write_all(1, &out)),
     }
 }
 

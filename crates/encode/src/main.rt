@@ -10,7 +10,8 @@ struct After {
 // 160 samples read, 76 codewords written.
 fn turn(e: Encoder) -> After {
     let mut bytes = [0; 320];
-    if !streams::frame(&mut bytes) {
+    let got = streams::fill(&mut bytes);
+    if !streams::whole(got, 320) {
         return After {
             state: e,
             more: false,
@@ -25,7 +26,7 @@ fn turn(e: Encoder) -> After {
     files::bytes(&codewords, &mut out);
     After {
         state: next,
-        more: streams::put(&out),
+        more: streams::written(io::write_all(1, &out)),
     }
 }
 

@@ -12,7 +12,7 @@ struct After {
 fn print(text: [u8; 1024], length: usize) -> bool
     requires { ⌜ length ≤ 1024 ⌝ }
 {
-    streams::put(&text[..length])
+    streams::written(io::write_all(1, &text[..length]))
 }
 
 // The E line, after so many bytes that make no frame.
@@ -28,8 +28,7 @@ fn end(l: Lister, rest: usize)
 fn turn(l: Lister) -> After {
     let mut bytes = [0; 320];
     let got = streams::fill(&mut bytes);
-    if got.failed {
-        streams::say_unread();
+    if !streams::readable(got) {
         return After {
             state: l,
             more: false,

@@ -1,5 +1,8 @@
-// Standard input and output, for the programs. What is read and written no promise can say, so nothing but that is done here.
+// Standard input, for the programs, and what is said on standard error. What a read gives and whether a write succeeds no promise can say.
+ghost use mathlib.Core.Path.{_≡_};
+ghost use mathlib.Core.Bool.{not, _&&_};
 ghost use Prim.Native.Nat.{_≤_};
+ghost use lib.Dec.{eqb};
 ghost use lib.ListN.{length};
 
 // How many bytes were read; and whether reading failed, where they are fewer than there was room for.
@@ -40,33 +43,44 @@ pub fn fill(room: &mut [u8]) -> Filled
     }
 }
 
-// Says on standard error that the input could not be read.
-pub fn say_unread() {
-    io::write_all(2, b"standard input cannot be read\n");
+// Whether reading went well. Where it failed, that is said on standard error.
+pub fn readable(got: Filled) -> bool
+    ensures { λ r. ⌜ r ≡ not (got .failed) ⌝ }
+{
+    if got.failed {
+        io::write_all(2, b"standard input cannot be read\n");
+    }
+    !got.failed
 }
 
-// Fills a frame's room and answers whether it is full. What keeps it from being full is said on standard error.
-pub fn frame(room: &mut [u8]) -> bool {
-    let got = fill(room);
-    if got.failed {
-        say_unread();
-        return false;
+// Bytes that are too few for a frame are counted on standard error.
+fn say_rest(count: usize, size: usize) {
+    if 0 < count {
+        if count < size {
+            io::print_decimal(2, count as u64);
+            io::write_all(2, b" bytes are left over, less than a frame: not coded\n");
+        }
     }
-    if got.count == room.len() {
-        return true;
-    }
-    if 0 < got.count {
-        io::print_decimal(2, got.count as u64);
-        io::write_all(2, b" bytes are left over, less than a frame: not coded\n");
+}
+
+// Whether a frame of so many bytes was read. What keeps it from that is said.
+pub fn whole(got: Filled, size: usize) -> bool
+    ensures { λ r. ⌜ r ≡ (not (got .failed) && eqb (got .count) size) ⌝ }
+{
+    if readable(got) {
+        say_rest(got.count, size);
+        return got.count == size;
     }
     false
 }
 
-// Writes bytes and answers whether all went out. A failure is said on standard error.
-pub fn put(bytes: &[u8]) -> bool {
-    let out = io::write_all(1, bytes);
-    if !out {
-        io::write_all(2, b"standard output cannot be written\n");
+// Whether a write went well, as it is handed in. Where it failed, that is said on standard error.
+pub fn written(out: bool) -> bool
+    ensures { λ r. ⌜ r ≡ out ⌝ }
+{
+    if out {
+        return true;
     }
-    out
+    io::write_all(2, b"standard output cannot be written\n");
+    false
 }

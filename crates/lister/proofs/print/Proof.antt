@@ -8,8 +8,8 @@ use Rattle.lister.proofs.print.Tie as tie
 room : (s : tie.Start) → length (s .args .t1) ≡ 1024
 room s = search needs
 
-slice-aggregate-put : tie.Need-slice-aggregate-put
-slice-aggregate-put c = rw length-take (omega (arith, room (c .before), c .before .pre))
+slice-aggregate-write-all : tie.Need-slice-aggregate-write-all
+slice-aggregate-write-all c = rw length-take (omega (arith, room (c .before), c .before .pre))
 
 pub print-spec : {M : Type 1} → statement M
-print-spec = tie.close (tie.spec (λ c. search needs) slice-aggregate-put (λ c κs. search needs) (λ c. search needs))
+print-spec = tie.close (tie.spec (λ c. search needs) slice-aggregate-write-all (λ c κs. search needs) (λ c κs. search needs) (λ c. search needs))
