@@ -25,7 +25,7 @@ pub record Decodes (d : Decoder) (codewords lent : List ℤ) (a : Decoded) (left
 
 -- ---- it determines the outcome: no two states stand for the same
 
-abbrev decoder-of : standard.Decoder → Decoder
+abbrev pub decoder-of : standard.Decoder → Decoder
 decoder-of m = record { drp = m .drp; nrp = m .nrp; larpp = m .LARpp; v = m .v; msr = m .msr }
 
 pub same-state : (d e : Decoder) → memory d ≡ memory e → d ≡ e

@@ -56,7 +56,7 @@ pub record Encodes (e : Encoder) (samples lent : List ℤ) (a : Encoded) (left :
 -- ---- it determines the outcome: no two values of a type stand for the same
 
 -- a state is read back from what it stands for
-abbrev encoder-of : Coder → Encoder
+abbrev pub encoder-of : Coder → Encoder
 encoder-of c = record { z1 = c .z1; «l_z2» = c .L-z2; mp = c .mp; larpp = c .LARpp; u = c .u; dp = c .dp }
 
 -- so two states that stand for the same are one
@@ -65,7 +65,7 @@ unfolding coder
 same-state e f p = ap encoder-of p
 
 -- an ending is read back too
-abbrev ending-of : Option lpc.Ending → Ending
+abbrev pub ending-of : Option lpc.Ending → Ending
 ending-of none = Ending-of.Absent
 ending-of (some lpc.silent) = Ending-of.Silent
 ending-of (some (lpc.stopped n)) = Ending-of.Stopped n
@@ -84,13 +84,13 @@ same-ending : (e f : Ending) → ending e ≡ ending f → e ≡ f
 same-ending e f p = sym (ending-back e) ∙ ap ending-of p ∙ ending-back f
 
 -- a mark is read back too
-abbrev mark-of : Option house.Mark → Mark
+abbrev pub mark-of : Option house.Mark → Mark
 mark-of none = Mark-of.Absent
 mark-of (some house.rule) = Mark-of.Rule
 mark-of (some house.found) = Mark-of.Found
 
 -- and the four of them
-abbrev marks-of : List (Option house.Mark) → Marks
+abbrev pub marks-of : List (Option house.Mark) → Marks
 marks-of ms =
     record {
       first = mark-of (getD ms 0 none);

@@ -143,9 +143,12 @@ sub-sums dp d v n w l =
 
 -- ---- all six
 
--- from any sound state, and for each sub-frame from the history and the part of d that it starts from
-pub six-sums : (c : Coder) (sop : List ℤ) → Carried c → sound-coder c ≡ true → length sop ≡ 160 → every word sop ≡ true
-    → FrameSums c sop × ((i : ℕ) → i < 4 → SubSums (history c sop i) (part c sop i))
+-- of a frame, and of each of its sub-frames from the history and the part of d that it starts from
+abbrev pub SixSums : Coder → List ℤ → Type 0
+SixSums c sop = FrameSums c sop × ((i : ℕ) → i < 4 → SubSums (history c sop i) (part c sop i))
+
+-- from any sound state
+pub six-sums : (c : Coder) (sop : List ℤ) → Carried c → sound-coder c ≡ true → length sop ≡ 160 → every word sop ≡ true → SixSums c sop
 six-sums c sop h sound l w = (
   frame-sums c sop sound l w,
   λ i k.
@@ -154,7 +157,6 @@ six-sums c sop h sound l w = (
 
 -- so from home, whatever frames of words came before
 pub six-sums-from-home : (frames : List (List ℤ)) (sop : List ℤ)
-    → every (every word) frames ≡ true → length sop ≡ 160 → every word sop ≡ true
-    → let c = run coded home-coder frames .0 in FrameSums c sop × ((i : ℕ) → i < 4 → SubSums (history c sop i) (part c sop i))
+    → every (every word) frames ≡ true → length sop ≡ 160 → every word sop ≡ true → SixSums (run coded home-coder frames .0) sop
 six-sums-from-home frames sop ws l w =
     six-sums (run coded home-coder frames .0) sop (coded-all-carried home-coder frames home-carried) (coded-from-home frames ws) l w

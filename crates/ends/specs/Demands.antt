@@ -1,0 +1,96 @@
+-- Demands 1 and 2, of any outcome that keeps a call's promise; demand 3 is `together`. That every call ends is no statement: the check itself refuses a function that might not.
+use Prim.Native.Nat.{ℕ, zero, suc}
+use mathlib.Core.Path.{_≡_, refl, sym, _∙_}
+use mathlib.Core.Bool.{true}
+use mathlib.Core.Option.{some}
+use mathlib.Core.List.{List, map}
+use lib.Dec.{eqb}
+use lib.IntN.{ℤ}
+use Rattle.lists.specs.Every.{every}
+use Rattle.standard.specs.Frame.{words, received}
+use Rattle.standard.specs.Coder.{coded, frame}
+use Rattle.standard.specs.Decoder as standard
+use Rattle.standard.specs.Packed.{packed, unpacked, spare}
+use Rattle.standard.specs.House.{sound-coder, sound-decoder, fits, encode-refusal, decode-refusal, pack-refusal, unpack-refusal}
+use Rattle.standard.specs.House as house
+use Rattle.refusals.specs.Rows.{Exactly}
+use Rattle.refusals.specs.Calls.{encode-exactly, encode-done, decode-exactly, decode-done}
+use Rattle.refusals.specs.Calls.{pack-exactly, pack-number, pack-done, unpack-exactly, unpack-number, unpack-done}
+use Rattle.encoder.specs.declared.Encoder.{Encoder}
+use Rattle.encoder.specs.declared.Encoded.{Encoded}
+use Rattle.encoder.specs.Promise.{coder, ending, marks, Encodes}
+use Rattle.encoder.specs.Promise as encoder
+use Rattle.encoder.specs.Calls as encoder-calls
+use Rattle.decoder.specs.declared.Decoder.{Decoder}
+use Rattle.decoder.specs.declared.Decoded.{Decoded}
+use Rattle.decoder.specs.Promise.{memory, Decodes}
+use Rattle.decoder.specs.Promise as decoder
+use Rattle.decoder.specs.Calls as decoder-calls
+use Rattle.packing.specs.Promise.{Packs, packing-refused, Unpacks, unpacking-refused}
+
+-- ---- encode
+
+module _ (e : Encoder) (samples lent : List ℤ) (a : Encoded) (left : List ℤ) (p : Encodes e samples lent a left) where
+  -- demand 1: 1, 2 and 3 exactly when 01 says, the lowest of several, and 0 exactly when nothing is wrong
+  pub encode-refuses : Exactly (a .number) 160 76 1 2 3 samples lent (sound-coder (coder e))
+  encode-refuses = rw (encoder-calls.number-is e samples lent a left p) (encode-exactly (coder e) samples lent)
+
+  -- a refusal hands back the state as it was, no ending, no marks, and writes nothing
+  pub encode-hands-back : (n : ℕ) → a .number ≡ suc n → (a ≡ encoder.refused (suc n) e) × (left ≡ lent)
+  encode-hands-back n h = encoder.one-refusal e samples lent n (sym (encoder-calls.number-is e samples lent a left p) ∙ h) a left p
+
+  -- demand 2: else the state, the 76 codewords, the ending and the marks are those of 4.2
+  pub encode-equals : a .number ≡ 0 → let t = coded (coder e) samples in
+      (coder (a .state) ≡ t .0) × (left ≡ words (frame (t .1)))
+      × (ending (a .ending) ≡ some (t .1 .ending)) × (marks (a .marks) ≡ map (λ s. some (house.mark s)) (t .1 .subframes))
+  encode-equals h =
+      let d = encode-done (coder e) samples lent (sym (encoder-calls.number-is e samples lent a left p) ∙ h) in
+      (rw d at (p .state), rw d at (p .codewords), rw d at (p .ending), rw d at (p .marks))
+
+-- ---- decode
+
+module _ (m : Decoder) (codewords lent : List ℤ) (a : Decoded) (left : List ℤ) (p : Decodes m codewords lent a left) where
+  -- demand 1
+  pub decode-refuses : Exactly (a .number) 160 76 1 2 3 lent codewords (sound-decoder (memory m))
+  decode-refuses = rw (decoder-calls.number-is m codewords lent a left p) (decode-exactly (memory m) codewords lent)
+
+  pub decode-hands-back : (n : ℕ) → a .number ≡ suc n → (a ≡ decoder.refused (suc n) m) × (left ≡ lent)
+  decode-hands-back n h = decoder.one-refusal m codewords lent n (sym (decoder-calls.number-is m codewords lent a left p) ∙ h) a left p
+
+  -- demand 2: the state and the 160 samples are those of 4.3
+  pub decode-equals : a .number ≡ 0 → let t = standard.decoded (memory m) (received codewords) in (memory (a .state) ≡ t .0) × (left ≡ t .1)
+  decode-equals h =
+      let d = decode-done (memory m) codewords lent (sym (decoder-calls.number-is m codewords lent a left p) ∙ h) in
+      (rw d at (p .state), rw d at (p .samples))
+
+-- ---- pack and unpack
+
+module _ (codewords : List ℤ) (lent : List ℕ) (n : ℕ) (left : List ℕ) (p : Packs codewords lent n left) where
+  is-pack's : n ≡ pack-refusal codewords lent
+  is-pack's = p .number ∙ pack-number codewords lent
+
+  -- demand 1
+  pub pack-refuses : Exactly n 76 33 2 4 5 codewords lent (fits codewords)
+  pack-refuses = rw is-pack's (pack-exactly codewords lent)
+
+  pub pack-hands-back : (k : ℕ) → n ≡ suc k → left ≡ lent
+  pack-hands-back k h = packing-refused codewords lent k n left (sym is-pack's ∙ h) p .1
+
+  -- demand 2: the 33 bytes are those of table 1.1
+  pub pack-equals : n ≡ 0 → left ≡ packed codewords
+  pack-equals h = rw (pack-done codewords lent (sym is-pack's ∙ h)) at (p .bytes)
+
+module _ (bytes : List ℕ) (lent : List ℤ) (n : ℕ) (left : List ℤ) (p : Unpacks bytes lent n left) where
+  is-unpack's : n ≡ unpack-refusal bytes lent
+  is-unpack's = p .number ∙ unpack-number bytes lent
+
+  -- demand 1
+  pub unpack-refuses : Exactly n 76 33 2 4 6 lent bytes (every (eqb 0) (spare bytes))
+  unpack-refuses = rw is-unpack's (unpack-exactly bytes lent)
+
+  pub unpack-hands-back : (k : ℕ) → n ≡ suc k → left ≡ lent
+  unpack-hands-back k h = unpacking-refused bytes lent k n left (sym is-unpack's ∙ h) p .1
+
+  -- demand 2
+  pub unpack-equals : n ≡ 0 → left ≡ unpacked bytes
+  unpack-equals h = rw (unpack-done bytes lent (sym is-unpack's ∙ h)) at (p .codewords)

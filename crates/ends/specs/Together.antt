@@ -1,0 +1,105 @@
+-- Demand 3: both ends stay together, over any finite sequence of calls of encode and decode.
+--
+-- In words. Both ends start at home. They are called in any order and on any buffers, and calls that are refused may stand anywhere. Asked is (`Handed`): encode codes no
+-- frame while one waits to be handed over; and what decode decodes is the frame that waits, its valid bits intact, whatever stands in the others. Then (`Shown`) every codeword of
+-- every frame fits its field, every lag is from 40 to 120, no step of the six sums meets its limit; and after each frame that was handed over both ends hold the same 120
+-- residual samples and the same eight decoded ratios. Where a call breaks what is asked, nothing is said of it or of the calls after it; those before it are a sequence of their own.
+use mathlib.Core.Path.{_≡_}
+use mathlib.Core.Bool.{true}
+use mathlib.Core.Option.{Option, none, some, Option·map}
+use mathlib.Core.List.{List, [], _∷_, map}
+use lib.IntN.{ℤ}
+use Rattle.lists.specs.Every.{every}
+use Rattle.standard.specs.Frame.{valid, received}
+use Rattle.standard.specs.LongTerm.{is-lag}
+use Rattle.standard.specs.House.{home-coder, home-decoder, fits}
+use Rattle.standard.specs.Answers.{answer}
+use Rattle.arithmetic.specs.Within.{word}
+use Rattle.limits.specs.Sums.{SixSums}
+use Rattle.encoder.specs.declared.Encoder.{Encoder}
+use Rattle.encoder.specs.declared.Encoded.{Encoded}
+use Rattle.encoder.specs.Promise.{coder, Encodes}
+use Rattle.decoder.specs.declared.Decoder.{Decoder}
+use Rattle.decoder.specs.declared.Decoded.{Decoded}
+use Rattle.decoder.specs.Promise.{memory, Decodes}
+use Rattle.ends.specs.Holds.{Holds, home-holds, encode-holds, encode-shows, decode-holds, decode-shows}
+
+-- a call as it was made: the two buffers lent, the answer, and what was left in the one that it may alter
+pub data Call : Type 0 where
+  encodes : (samples codewords : List ℤ) (a : Encoded) (left : List ℤ) → Call
+  decodes : (codewords samples : List ℤ) (a : Decoded) (left : List ℤ) → Call
+
+-- both ends, and the frame that encode has returned and that is not handed over yet
+pub record Ends : Type 0 where
+  pub encoder : Encoder
+  pub decoder : Decoder
+  pub waiting : Option (List ℤ)
+
+-- after a call: the state that it hands back; a frame waits once it is coded, and no longer once one is decoded
+unfoldable pub after : Ends → Call → Ends
+after t (encodes _ _ a left) =
+    record { encoder = a .state; decoder = t .decoder; waiting = answer (a .number) (some left) (λ _. t .waiting) }
+after t (decodes _ _ a _) =
+    record { encoder = t .encoder; decoder = a .state; waiting = answer (a .number) none (λ _. t .waiting) }
+
+-- every call is like that: it keeps its promise; that samples are words their type says
+unfoldable pub Made : Ends → Call → Type 0
+Made t (encodes samples codewords a left) = Encodes (t .encoder) samples codewords a left × (every word samples ≡ true)
+Made t (decodes codewords samples a left) = Decodes (t .decoder) codewords samples a left
+
+-- what is asked of those who make the calls
+unfoldable pub Handed : Ends → Call → Type 0
+Handed t (encodes _ _ a _) = a .number ≡ 0 → t .waiting ≡ none
+Handed t (decodes codewords _ a _) = a .number ≡ 0 → Option·map valid (t .waiting) ≡ some (valid codewords)
+
+-- the lags of a frame, as the decoder reads them
+unfoldable pub lags : List ℤ → List ℤ
+lags codewords = map (λ f. f .Nc) (received codewords .subframes)
+
+-- what is shown
+unfoldable pub Shown : Ends → Call → Type 0
+Shown t (encodes samples _ a left) = a .number ≡ 0 → (fits left ≡ true) × (every is-lag (lags left) ≡ true) × SixSums (coder (t .encoder)) samples
+Shown t (decodes _ _ a _) =
+    a .number ≡ 0 → (coder (t .encoder) .dp ≡ memory (a .state) .drp) × (coder (t .encoder) .LARpp ≡ memory (a .state) .LARpp)
+
+-- so at each call of a sequence
+unfoldable pub along : (Ends → Call → Type 0) → Ends → List Call → Type 0
+along P t [] = Unit {0}
+along P t (c ∷ calls) = P t c × along P (after t c) calls
+
+-- where no frame waits yet
+abbrev pub at-home : Encoder → Decoder → Ends
+at-home e d = record { encoder = e; decoder = d; waiting = none }
+
+-- ---- the proof: one call, then one after the other
+
+-- what holds of both ends
+abbrev Held : Ends → Type 0
+Held t = Holds (coder (t .encoder)) (memory (t .decoder)) (t .waiting)
+
+-- it is kept by a call
+kept : (t : Ends) (c : Call) → Made t c → Handed t c → Held t → Held (after t c)
+unfolding after Made Handed
+kept t (encodes samples codewords a left) (m, w) k h = rw (m .state, m .number, m .codewords) (encode-holds _ _ _ samples codewords h w (rw (m .number) at k))
+kept t (decodes codewords samples a left) m k h = rw (m .state, m .number) (decode-holds _ _ _ codewords samples h (rw (m .number) at k))
+
+-- and what is shown follows from it
+shows : (t : Ends) (c : Call) → Made t c → Handed t c → Held t → Shown t c
+unfolding Made Handed Shown lags
+shows t (encodes samples codewords a left) (m, w) k h =
+    λ n. rw (m .codewords) (encode-shows _ _ _ samples codewords h w (rw (m .number) at n))
+shows t (decodes codewords samples a left) m k h =
+    λ n.
+    let g = decode-shows _ _ _ codewords samples h (rw (m .number) at k) (rw (m .number) at n) in
+    rw (m .state) (g .history, g .ratios)
+
+-- so along a sequence
+shown : (t : Ends) → Held t → (calls : List Call) → along Made t calls → along Handed t calls → along Shown t calls
+unfolding along
+shown t h [] made handed = tt
+shown t h (c ∷ calls) (m, made) (k, handed) = (shows t c m k h, shown (after t c) (kept t c m k h) calls made handed)
+
+-- demand 3
+pub together : (e : Encoder) (d : Decoder) → coder e ≡ home-coder → memory d ≡ home-decoder → (calls : List Call) → let start = at-home e d in
+    along Made start calls → along Handed start calls → along Shown start calls
+together e d p q calls = shown (at-home e d) (rw (p, q) home-holds) calls

@@ -1,0 +1,124 @@
+-- 01, 'What counts as shown' (c): useless versions, and that none of them keeps the promises.
+use Prim.Native.Nat.{ℕ}
+use native.Mathlib.Omega.{arith}
+use mathlib.Core.Path.{_≡_, refl, sym, ap, subst, _∙_}
+use mathlib.Core.Bool.{true}
+use mathlib.Core.Option.{Option, none, some}
+use mathlib.Core.List.{List}
+use lib.IntN.{ℤ, pos, natAbs}
+use lib.ListN.{length, drop}
+use Rattle.standard.specs.Tables.{_at_}
+use Rattle.standard.specs.Lpc as lpc
+use Rattle.standard.specs.House.{home-coder, home-decoder, sound-coder, sound-decoder}
+use Rattle.standard.specs.Answers as answers
+use Rattle.standard.specs.Opened.{opened}
+use Rattle.standard.specs.ZeroFrame.{zero-frame}
+use Rattle.refusals.specs.Calls.{encode-exactly, decode-exactly}
+use Rattle.encoder.specs.declared.Encoder.{Encoder}
+use Rattle.encoder.specs.declared.Ending.the-variants as Ending-of
+use Rattle.encoder.specs.declared.Encoded.{Encoded}
+use Rattle.encoder.specs.Promise.{coder, ending, Encodes}
+use Rattle.encoder.specs.Calls as encoder
+use Rattle.decoder.specs.declared.Decoder.{Decoder}
+use Rattle.decoder.specs.declared.Decoded.{Decoded}
+use Rattle.decoder.specs.Promise.{memory, Decodes}
+use Rattle.decoder.specs.Calls as decoder
+use Rattle.ends.specs.Example.{zeros, pulses, first-frame, second-frame}
+
+-- two numbers that are not the same
+unlike : (m n : ℕ) → ¬ (m ≡ n) → ¬ (pos m ≡ pos n)
+unlike m n h e = h (ap natAbs e)
+
+-- an ending that is no stop
+not-stopped : Option lpc.Ending → Type 0
+not-stopped none = Unit {0}
+not-stopped (some lpc.silent) = Unit {0}
+not-stopped (some (lpc.stopped n)) = ⊥
+not-stopped (some lpc.complete) = Unit {0}
+
+-- ---- refusing all: what 01 does not refuse is done
+
+pub refuses-samples : (e : Encoder) (samples lent : List ℤ) (a : Encoded) (left : List ℤ)
+    → length samples ≡ 160 → length lent ≡ 76 → sound-coder (coder e) ≡ true → ¬ (a .number ≡ 0) → ¬ Encodes e samples lent a left
+refuses-samples e samples lent a left l k s n p =
+    n (encoder.number-is e samples lent a left p ∙ encode-exactly (coder e) samples lent .allows l k s)
+
+pub refuses-frames : (d : Decoder) (codewords lent : List ℤ) (a : Decoded) (left : List ℤ)
+    → length lent ≡ 160 → length codewords ≡ 76 → sound-decoder (memory d) ≡ true → ¬ (a .number ≡ 0) → ¬ Decodes d codewords lent a left
+refuses-frames d codewords lent a left l k s n p =
+    n (decoder.number-is d codewords lent a left p ∙ decode-exactly (memory d) codewords lent .allows l k s)
+
+-- ---- from home: what pulses, silence and their frames come to, computed
+
+pub record Computed : Type 0 where
+  pub frame : answers.encode home-coder pulses (zeros 76) .codewords ≡ first-frame
+  pub ending : answers.encode home-coder pulses (zeros 76) .ending ≡ some lpc.complete
+  pub oldest : answers.encode home-coder pulses (zeros 76) .state .dp at 0 ≡ pos 3808
+  pub silence : answers.encode home-coder (zeros 160) (zeros 76) .codewords ≡ zero-frame
+  pub decoded-oldest : answers.decode home-decoder first-frame (zeros 160) .state .drp at 0 ≡ pos 3808
+  pub first-sample : answers.decode home-decoder first-frame (zeros 160) .samples at 0 ≡ pos 3584
+  pub other-sample : answers.decode home-decoder second-frame (zeros 160) .samples at 0 ≡ pos 0
+
+computed : Computed
+unfolding opened pulses first-frame second-frame zero-frame
+computed = record { frame = refl; ending = refl; oldest = refl; silence = refl; decoded-oldest = refl; first-sample = refl; other-sample = refl }
+
+-- ---- so no outcome that keeps the promise is one of these
+
+module _ (e : Encoder) (h : coder e ≡ home-coder) (a : Encoded) (w : List ℤ) (p : Encodes e pulses (zeros 76) a w) where
+  -- the frame is the one computed
+  own : w ≡ first-frame
+  own = p .codewords ∙ ap (λ c. answers.encode c pulses (zeros 76) .codewords) h ∙ computed .frame
+
+  -- one constant frame: silence leaves another
+  pub constant-frame : (b : Encoded) → ¬ Encodes e (zeros 160) (zeros 76) b w
+  unfolding first-frame zero-frame
+  constant-frame b q =
+      let same : first-frame ≡ zero-frame
+      = sym own ∙ q .codewords ∙ ap (λ c. answers.encode c (zeros 160) (zeros 76) .codewords) h ∙ computed .silence
+      in
+      unlike 42 32 (omega arith) (ap (λ c. c at 0) same)
+
+  -- a coder left untouched
+  pub untouched-coder : ¬ (a .state ≡ e)
+  unfolding home-coder
+  untouched-coder s =
+      let moved : coder (a .state) .dp at 0 ≡ pos 3808
+      = ap (λ c. c .dp at 0) (p .state) ∙ ap (λ c. answers.encode c pulses (zeros 76) .state .dp at 0) h ∙ computed .oldest
+      in
+      unlike 3808 0 (omega arith) (sym moved ∙ ap (λ c. c .dp at 0) (ap coder s ∙ h))
+
+  -- sub-frame 1 coded, and 40 0 0 0 with fours after it
+  pub first-only : ¬ (drop 25 w ≡ drop 25 zero-frame)
+  unfolding first-frame zero-frame
+  first-only z = unlike 3 0 (omega arith) (ap (λ c. c at 1) (sym (ap (drop 25) own) ∙ z))
+
+  -- an invented stop: the recursion is complete
+  pub invented-stop : (n : ℕ) → ¬ (a .ending ≡ Ending-of.Stopped n)
+  unfolding ending not-stopped
+  invented-stop n s =
+      let whole : ending (a .ending) ≡ some lpc.complete
+      = p .ending ∙ ap (λ c. answers.encode c pulses (zeros 76) .ending) h ∙ computed .ending
+      in
+      subst not-stopped (sym whole ∙ ap ending s) tt
+
+module _ (d : Decoder) (h : memory d ≡ home-decoder) (a : Decoded) (w : List ℤ) (p : Decodes d first-frame (zeros 160) a w) where
+  -- the same samples for every frame
+  pub constant-samples : (b : Decoded) → ¬ Decodes d second-frame (zeros 160) b w
+  constant-samples b q =
+      let own : w at 0 ≡ pos 3584
+      = ap (λ c. c at 0) (p .samples ∙ ap (λ m. answers.decode m first-frame (zeros 160) .samples) h) ∙ computed .first-sample
+      in
+      let other : w at 0 ≡ pos 0
+      = ap (λ c. c at 0) (q .samples ∙ ap (λ m. answers.decode m second-frame (zeros 160) .samples) h) ∙ computed .other-sample
+      in
+      unlike 3584 0 (omega arith) (sym own ∙ other)
+
+  -- a decoder left untouched
+  pub untouched-decoder : ¬ (a .state ≡ d)
+  unfolding home-decoder
+  untouched-decoder s =
+      let moved : memory (a .state) .drp at 0 ≡ pos 3808
+      = ap (λ m. m .drp at 0) (p .state) ∙ ap (λ m. answers.decode m first-frame (zeros 160) .state .drp at 0) h ∙ computed .decoded-oldest
+      in
+      unlike 3808 0 (omega arith) (sym moved ∙ ap (λ m. m .drp at 0) (ap memory s ∙ h))

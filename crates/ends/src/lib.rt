@@ -1,0 +1,1 @@
+// Demand 3, over any sequence of calls of both ends; and the three demands on one page; no code.
