@@ -8,7 +8,7 @@ use Rattle.lists.specs.Scan.{run}
 use Rattle.lists.specs.Cut.{cut}
 use Rattle.standard.specs.Frame.{words, received}
 use Rattle.standard.specs.LongTerm.{is-lag}
-use Rattle.standard.specs.Coder.{Coder, analysis, sub-coded, sub-step, frame, coded}
+use Rattle.standard.specs.Coder.{Coder, analysis, sub-step, frame, coded}
 use Rattle.standard.specs.Decoder.{Decoder, Nr, sub-decoded, decoded}
 use Rattle.fields.specs.Fields.{sub-coded-within}
 use Rattle.fields.specs.Valid.{received-coded}

@@ -1,7 +1,6 @@
 -- Demands 1 and 2, of any outcome that keeps a call's promise; demand 3 is `together`. That every call ends is no statement: the check itself refuses a function that might not.
-use Prim.Native.Nat.{ℕ, zero, suc}
-use mathlib.Core.Path.{_≡_, refl, sym, _∙_}
-use mathlib.Core.Bool.{true}
+use Prim.Native.Nat.{ℕ, suc}
+use mathlib.Core.Path.{_≡_, sym, _∙_}
 use mathlib.Core.Option.{some}
 use mathlib.Core.List.{List, map}
 use lib.Dec.{eqb}
@@ -11,7 +10,7 @@ use Rattle.standard.specs.Frame.{words, received}
 use Rattle.standard.specs.Coder.{coded, frame}
 use Rattle.standard.specs.Decoder as standard
 use Rattle.standard.specs.Packed.{packed, unpacked, spare}
-use Rattle.standard.specs.House.{sound-coder, sound-decoder, fits, encode-refusal, decode-refusal, pack-refusal, unpack-refusal}
+use Rattle.standard.specs.House.{sound-coder, sound-decoder, fits, pack-refusal, unpack-refusal}
 use Rattle.standard.specs.House as house
 use Rattle.refusals.specs.Rows.{Exactly}
 use Rattle.refusals.specs.Calls.{encode-exactly, encode-done, decode-exactly, decode-done}

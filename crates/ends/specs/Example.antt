@@ -2,21 +2,18 @@
 use Prim.Native.Nat.{ℕ}
 use mathlib.Core.Path.{_≡_, refl, ap}
 use native.Mathlib.Nat.{suc-ne-zero}
-use mathlib.Core.Bool.{true}
-use mathlib.Core.Option.{none, some, Option·some-ne-none}
+use mathlib.Core.Option.{Option·some-ne-none}
 use mathlib.Core.List.{List, [], _∷_, map, flatten}
 use lib.IntN.{ℤ, pos, natAbs}
 use lib.ListN.{replicate}
-use Rattle.lists.specs.Every.{every}
 use Rattle.standard.specs.Arithmetic.{peak}
 use Rattle.standard.specs.Tables.{neg, _at_}
-use Rattle.standard.specs.Frame.{valid}
 use Rattle.standard.specs.House.{home-coder, home-decoder}
 use Rattle.standard.specs.Answers as answers
 use Rattle.standard.specs.Opened.{opened}
 use Rattle.encoder.specs.Promise.{coder, encoder-of}
 use Rattle.decoder.specs.Promise.{memory, decoder-of}
-use Rattle.ends.specs.Together.{Call, Ends, after, Handed, Shown, along, at-home, together}
+use Rattle.ends.specs.Together.{Call, encodes, decodes, Ends, after, Handed, Shown, along, at-home, together}
 use Rattle.ends.specs.Outcomes.{Ask, encode, decode, call, calls, of-words, calls-made}
 
 -- so many zeros: silence, or a buffer to be filled
@@ -48,6 +45,16 @@ abbrev pub asks : List Ask
 asks =
     encode pulses (zeros 76) ∷ decode (zeros 76) (zeros 159) ∷ decode strayed (zeros 160)
     ∷ encode pulses (zeros 75) ∷ encode (zeros 160) (zeros 76) ∷ decode second-frame (zeros 160) ∷ []
+
+-- a call's number
+unfoldable pub number : Call → ℕ
+number (encodes _ _ a _) = a .number
+number (decodes _ _ a _) = a .number
+
+-- two of them are refused, and no other
+pub numbers : map number (calls home asks) ≡ 0 ∷ 1 ∷ 0 ∷ 2 ∷ 0 ∷ 0 ∷ []
+unfolding opened calls call after number coder memory pulses strayed second-frame
+numbers = refl
 
 -- these calls meet what is asked
 pub meets : along Handed home (calls home asks)

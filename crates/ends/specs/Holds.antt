@@ -13,7 +13,7 @@ use Rattle.standard.specs.Decoder.{Decoder, decoded}
 use Rattle.standard.specs.House.{home-coder, home-decoder, sound-coder, fits, encode-refusal, decode-refusal}
 use Rattle.standard.specs.Answers.{answer, encode, decode}
 use Rattle.arithmetic.specs.Within.{word}
-use Rattle.refusals.specs.Calls.{encode-exactly, encode-number, encode-done, encode-refused, decode-number, decode-done, decode-refused}
+use Rattle.refusals.specs.Calls.{encode-exactly, encode-number, encode-done, encode-refused, decode-done, decode-refused}
 use Rattle.fields.specs.Fields.{coded-fits, coded-lags}
 use Rattle.fields.specs.Valid.{received-coded}
 use Rattle.soundness.specs.States.{home-coder-sound, coded-sound}

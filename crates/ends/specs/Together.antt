@@ -1,9 +1,13 @@
--- Demand 3: both ends stay together, over any finite sequence of calls of encode and decode.
+-- Demand 3: both ends stay together.
 --
--- In words. Both ends start at home. They are called in any order and on any buffers, and calls that are refused may stand anywhere. Asked is (`Handed`): encode codes no
--- frame while one waits to be handed over; and what decode decodes is the frame that waits, its valid bits intact, whatever stands in the others. Then (`Shown`) every codeword of
--- every frame fits its field, every lag is from 40 to 120, no step of the six sums meets its limit; and after each frame that was handed over both ends hold the same 120
--- residual samples and the same eight decoded ratios. Where a call breaks what is asked, nothing is said of it or of the calls after it; those before it are a sequence of their own.
+-- Take any finite sequence of calls of encode and decode, in any order and on any buffers, from home at both ends; calls that are refused may stand anywhere in it.
+-- If (`Handed`)
+--   encode codes no frame while the one before it still waits to be handed over, and
+--   what decode decodes is the frame that waits, its valid bits intact, whatever the other bits are,
+-- then (`Shown`)
+--   every codeword of every frame fits its field, every lag is from 40 to 120, and none of the six sums meets its limit at any step;
+--   after each frame that was handed over both ends hold the same 120 residual samples and the same eight decoded ratios.
+-- A call that breaks the condition is not covered, nor are those after it. The calls before it are a sequence of their own, and they are.
 use mathlib.Core.Path.{_≡_}
 use mathlib.Core.Bool.{true}
 use mathlib.Core.Option.{Option, none, some, Option·map}
@@ -42,12 +46,12 @@ after t (encodes _ _ a left) =
 after t (decodes _ _ a _) =
     record { encoder = t .encoder; decoder = a .state; waiting = answer (a .number) none (λ _. t .waiting) }
 
--- every call is like that: it keeps its promise; that samples are words their type says
+-- this much is true of every call: it keeps its promise; and samples are words, by their type
 unfoldable pub Made : Ends → Call → Type 0
 Made t (encodes samples codewords a left) = Encodes (t .encoder) samples codewords a left × (every word samples ≡ true)
 Made t (decodes codewords samples a left) = Decodes (t .decoder) codewords samples a left
 
--- what is asked of those who make the calls
+-- the condition, which is for those who make the calls to meet
 unfoldable pub Handed : Ends → Call → Type 0
 Handed t (encodes _ _ a _) = a .number ≡ 0 → t .waiting ≡ none
 Handed t (decodes codewords _ a _) = a .number ≡ 0 → Option·map valid (t .waiting) ≡ some (valid codewords)
@@ -71,35 +75,32 @@ along P t (c ∷ calls) = P t c × along P (after t c) calls
 abbrev pub at-home : Encoder → Decoder → Ends
 at-home e d = record { encoder = e; decoder = d; waiting = none }
 
--- ---- the proof: one call, then one after the other
-
--- what holds of both ends
-abbrev Held : Ends → Type 0
-Held t = Holds (coder (t .encoder)) (memory (t .decoder)) (t .waiting)
-
--- it is kept by a call
-kept : (t : Ends) (c : Call) → Made t c → Handed t c → Held t → Held (after t c)
-unfolding after Made Handed
-kept t (encodes samples codewords a left) (m, w) k h = rw (m .state, m .number, m .codewords) (encode-holds _ _ _ samples codewords h w (rw (m .number) at k))
-kept t (decodes codewords samples a left) m k h = rw (m .state, m .number) (decode-holds _ _ _ codewords samples h (rw (m .number) at k))
-
--- and what is shown follows from it
-shows : (t : Ends) (c : Call) → Made t c → Handed t c → Held t → Shown t c
-unfolding Made Handed Shown lags
-shows t (encodes samples codewords a left) (m, w) k h =
-    λ n. rw (m .codewords) (encode-shows _ _ _ samples codewords h w (rw (m .number) at n))
-shows t (decodes codewords samples a left) m k h =
-    λ n.
-    let g = decode-shows _ _ _ codewords samples h (rw (m .number) at k) (rw (m .number) at n) in
-    rw (m .state) (g .history, g .ratios)
-
--- so along a sequence
-shown : (t : Ends) → Held t → (calls : List Call) → along Made t calls → along Handed t calls → along Shown t calls
-unfolding along
-shown t h [] made handed = tt
-shown t h (c ∷ calls) (m, made) (k, handed) = (shows t c m k h, shown (after t c) (kept t c m k h) calls made handed)
-
 -- demand 3
 pub together : (e : Encoder) (d : Decoder) → coder e ≡ home-coder → memory d ≡ home-decoder → (calls : List Call) → let start = at-home e d in
     along Made start calls → along Handed start calls → along Shown start calls
-together e d p q calls = shown (at-home e d) (rw (p, q) home-holds) calls
+unfolding after Made Handed Shown lags along
+together e d p q = along-calls (at-home e d) (rw (p, q) home-holds)
+  where
+    -- what holds of both ends
+    Held : Ends → Type 0
+    Held t = Holds (coder (t .encoder)) (memory (t .decoder)) (t .waiting)
+
+    -- a call keeps it
+    kept : (t : Ends) (c : Call) → Made t c → Handed t c → Held t → Held (after t c)
+    kept t (encodes samples codewords a left) (m, w) k h =
+        rw (m .state, m .number, m .codewords) (encode-holds _ _ _ samples codewords h w (rw (m .number) at k))
+    kept t (decodes codewords samples a left) m k h = rw (m .state, m .number) (decode-holds _ _ _ codewords samples h (rw (m .number) at k))
+
+    -- and is as it is shown
+    shown : (t : Ends) (c : Call) → Made t c → Handed t c → Held t → Shown t c
+    shown t (encodes samples codewords a left) (m, w) k h =
+        λ n. rw (m .codewords) (encode-shows _ _ _ samples codewords h w (rw (m .number) at n))
+    shown t (decodes codewords samples a left) m k h =
+        λ n.
+        let g = decode-shows _ _ _ codewords samples h (rw (m .number) at k) (rw (m .number) at n) in
+        rw (m .state) (g .history, g .ratios)
+
+    -- one call after the other
+    along-calls : (t : Ends) → Held t → (calls : List Call) → along Made t calls → along Handed t calls → along Shown t calls
+    along-calls t h [] made handed = tt
+    along-calls t h (c ∷ calls) (m, made) (k, handed) = (shown t c m k h, along-calls (after t c) (kept t c m k h) calls made handed)

@@ -5,3 +5,4 @@ pub mod Steps
 pub mod Sums
 pub mod Exact
 pub mod Shifts
+pub mod Received
