@@ -1,0 +1,15 @@
+use native.Mathlib.Omega.{arith}
+use lib.ListN.{length, length-take}
+use mathlib.Core.Path.{_≡_}
+use borrow.Author.Needs.{needs}
+use Rattle.together.proofs.print.Statement.{statement}
+use Rattle.together.proofs.print.Tie as tie
+
+room : (s : tie.Start) → length (s .args .t1) ≡ 64
+room s = search needs
+
+slice-aggregate-write-all : tie.Need-slice-aggregate-write-all
+slice-aggregate-write-all c = rw length-take (omega (arith, room (c .before), c .before .pre))
+
+pub print-spec : {M : Type 1} → statement M
+print-spec = tie.close (tie.spec (λ c. search needs) slice-aggregate-write-all (λ c κs. search needs) (λ c κs. search needs) (λ c. search needs))

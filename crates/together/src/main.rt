@@ -1,0 +1,278 @@
+// Both ends back to back on a recording, each from home. After each frame it tests what is claimed of them, on two frames of three with
+// stray bits set on the way, and prints a line: the frame, stray or plain, the loudest sample of the history, and the verdict.
+use decoder::Decoded;
+use decoder::Decoder;
+use encoder::Encoder;
+ghost use mathlib.Core.Path.{_≡_};
+ghost use mathlib.Core.Bool.{true, cond};
+ghost use mathlib.Core.Logic.{_↔_};
+ghost use Prim.Native.Nat.{_+_, _≤_, _<_};
+ghost use lib.IntN.{pos};
+ghost use Rattle.standard.specs.Arithmetic.{within};
+ghost use Rattle.standard.specs.Tables.{neg};
+
+// Both ends.
+struct Pair {
+    encoder: Encoder,
+    decoder: Decoder,
+}
+
+// What can be wrong with a frame: a call refused it, a codeword does not fit, a lag is out of range, or the two ends differ.
+struct Faults {
+    refused: bool,
+    field: bool,
+    lag: bool,
+    history: bool,
+    ratios: bool,
+}
+
+// The first fault, or none.
+enum Verdict {
+    Refused,
+    Field,
+    Lag,
+    History,
+    Ratios,
+    Together,
+}
+
+// What a frame came to.
+struct Outcome {
+    pair: Pair,
+    stray: bool,
+    verdict: Verdict,
+}
+
+// Both ends after a frame, how many frames were not together, and whether there may be another.
+struct After {
+    pair: Pair,
+    apart: u32,
+    more: bool,
+}
+
+fn judged(f: Faults) -> Verdict
+    ensures { λ r. ⌜ r ≡ cond (f .refused) Verdict.Refused (cond (f .field) Verdict.Field (cond (f .lag) Verdict.Lag (cond (f .history) Verdict.History (cond (f .ratios) Verdict.Ratios Verdict.Together)))) ⌝ }
+{
+    if f.refused {
+        Verdict::Refused
+    } else if f.field {
+        Verdict::Field
+    } else if f.lag {
+        Verdict::Lag
+    } else if f.history {
+        Verdict::History
+    } else if f.ratios {
+        Verdict::Ratios
+    } else {
+        Verdict::Together
+    }
+}
+
+// The stray bits of frame n.
+fn stray_bits(n: u32) -> i16
+    requires { ⌜ n ≤ 1000000 ⌝ }
+    ensures { λ r. ⌜ within (neg 256) (pos 255) r ≡ true ⌝ }
+{
+    (n * 37 % 512) as i16 - 256
+}
+
+// Sets them on two frames of three, and says whether it did. A frame that does not fit its fields is left as it is.
+fn disturbed(n: u32, codewords: &mut [i16; 76]) -> bool
+    requires { ⌜ n ≤ 1000000 ⌝ }
+{
+    if n % 3 != 0 {
+        if codewords::fits(codewords) {
+            agreement::strayed(stray_bits(n), codewords);
+            return true;
+        }
+    }
+    false
+}
+
+fn same_history(p: Pair) -> bool
+    ensures { λ r. ⌜ (r ≡ true) ↔ (p .encoder .dp ≡ p .decoder .drp) ⌝ }
+{
+    let e = p.encoder;
+    let m = p.decoder;
+    let dp = e.dp;
+    let drp = m.drp;
+    agreement::same(&dp, &drp)
+}
+
+fn same_ratios(p: Pair) -> bool
+    ensures { λ r. ⌜ (r ≡ true) ↔ (p .encoder .larpp ≡ p .decoder .larpp) ⌝ }
+{
+    let e = p.encoder;
+    let m = p.decoder;
+    let sent = e.larpp;
+    let received = m.larpp;
+    agreement::same(&sent, &received)
+}
+
+// The samples themselves are not looked at.
+fn heard(m: Decoder, codewords: [i16; 76]) -> Decoded {
+    let mut samples = [0; 160];
+    m.decode(&codewords, &mut samples)
+}
+
+// A frame from one end to the other.
+fn handed_over(n: u32, before: Pair, samples: [i16; 160]) -> Outcome
+    requires { ⌜ n ≤ 1000000 ⌝ }
+{
+    let e = before.encoder;
+    let m = before.decoder;
+    let mut codewords = [0; 76];
+    let coded = e.encode(&samples, &mut codewords);
+    let fit = codewords::fits(&codewords);
+    let lags = agreement::lags(&codewords);
+    let stray = disturbed(n, &mut codewords);
+    let decoded = heard(m, codewords);
+    let sender = coded.state;
+    let receiver = decoded.state;
+    let pair = Pair {
+        encoder: sender,
+        decoder: receiver,
+    };
+    let faults = Faults {
+        refused: coded.number != 0 || decoded.number != 0,
+        field: !fit,
+        lag: !lags,
+        history: !same_history(pair),
+        ratios: !same_ratios(pair),
+    };
+    Outcome {
+        pair: pair,
+        stray: stray,
+        verdict: judged(faults),
+    }
+}
+
+// A verdict's field, after its tab.
+fn verdict_field(v: Verdict, at: usize, out: &mut [u8; 64]) -> usize
+    requires { ⌜ at + 9 ≤ 64 ⌝ }
+    ensures { λ r. ⌜ r ≤ at + 9 ⌝ }
+{
+    match v {
+        Verdict::Refused => text::text(b"\trefused", at, out),
+        Verdict::Field => text::text(b"\tfield", at, out),
+        Verdict::Lag => text::text(b"\tlag", at, out),
+        Verdict::History => text::text(b"\thistory", at, out),
+        Verdict::Ratios => text::text(b"\tratios", at, out),
+        Verdict::Together => text::text(b"\ttogether", at, out),
+    }
+}
+
+// Whether stray bits were set, after its tab.
+fn stray_field(stray: bool, at: usize, out: &mut [u8; 64]) -> usize
+    requires { ⌜ at + 6 ≤ 64 ⌝ }
+    ensures { λ r. ⌜ r ≤ at + 6 ⌝ }
+{
+    if stray {
+        text::text(b"\tstray", at, out)
+    } else {
+        text::text(b"\tplain", at, out)
+    }
+}
+
+// A frame's line.
+fn line(n: u32, o: Outcome, out: &mut [u8; 64]) -> usize
+    requires { ⌜ n ≤ 1000000 ⌝ }
+    ensures { λ r. ⌜ r ≤ 64 ⌝ }
+{
+    let pair = o.pair;
+    let e = pair.encoder;
+    let dp = e.dp;
+    let verdict = o.verdict;
+    let loudest = [sums::peak(&dp)];
+    let number = text::decimal(n, 0, out);
+    let how = stray_field(o.stray, number, out);
+    let peak = text::fields(&loudest, how, out);
+    let end = verdict_field(verdict, peak, out);
+    text::text(b"\n", end, out)
+}
+
+// The last line: the frames, and how many of them were not together.
+fn last_line(frames: u32, apart: u32, out: &mut [u8; 64]) -> usize
+    requires { ⌜ (frames ≤ 1000000) × (apart ≤ frames) ⌝ }
+    ensures { λ r. ⌜ r ≤ 64 ⌝ }
+{
+    let name = text::text(b"E", 0, out);
+    let count = text::field(frames, name, out);
+    let end = text::field(apart, count, out);
+    text::text(b"\n", end, out)
+}
+
+// The text in front of a room.
+fn print(text: [u8; 64], length: usize) -> bool
+    requires { ⌜ length ≤ 64 ⌝ }
+{
+    streams::written(io::write_all(1, &text[..length]))
+}
+
+fn end(frames: u32, apart: u32)
+    requires { ⌜ (frames ≤ 1000000) × (apart ≤ frames) ⌝ }
+{
+    let mut text = [0; 64];
+    let length = last_line(frames, apart, &mut text);
+    print(text, length);
+}
+
+// One more, where a frame is not together.
+fn counted(v: Verdict, apart: u32) -> u32
+    requires { ⌜ apart < 1000000 ⌝ }
+    ensures { λ r. ⌜ r ≤ apart + 1 ⌝ }
+{
+    match v {
+        Verdict::Together => apart,
+        _ => apart + 1,
+    }
+}
+
+// Frame n read and handed over. Where no whole frame is left, the last line.
+fn turn(n: u32, pair: Pair, apart: u32) -> After
+    requires { ⌜ (n ≤ 1000000) × (apart < n) ⌝ }
+    ensures { λ r. ⌜ r .apart ≤ n ⌝ }
+{
+    let mut bytes = [0; 320];
+    let got = streams::fill(&mut bytes);
+    if !streams::whole(got, 320) {
+        if !got.failed {
+            end(n - 1, apart);
+        }
+        return After {
+            pair: pair,
+            apart: apart,
+            more: false,
+        };
+    }
+    let mut samples = [0; 160];
+    files::words(&bytes, &mut samples);
+    let o = handed_over(n, pair, samples);
+    let after = o.pair;
+    let verdict = o.verdict;
+    let mut text = [0; 64];
+    let length = line(n, o, &mut text);
+    After {
+        pair: after,
+        apart: counted(verdict, apart),
+        more: print(text, length),
+    }
+}
+
+// Nothing says that an input ends, so the frames are counted, up to a number that is 5 hours of speech.
+fn main() {
+    let mut pair = Pair {
+        encoder: Encoder::home(),
+        decoder: Decoder::home(),
+    };
+    let mut apart = 0u32;
+    for n in 1..1000001u32 {
+        let t = turn(n, pair, apart);
+        if !t.more {
+            return;
+        }
+        pair = t.pair;
+        apart = t.apart;
+    }
+    end(1000000, apart);
+}
