@@ -15,7 +15,7 @@ use Rattle.standard.specs.Answers.{answer, encode, decode}
 use Rattle.arithmetic.specs.Within.{word}
 use Rattle.refusals.specs.Calls.{encode-exactly, encode-number, encode-done, encode-refused, decode-done, decode-refused}
 use Rattle.fields.specs.Fields.{coded-fits, coded-lags}
-use Rattle.fields.specs.Valid.{received-coded}
+use Rattle.fields.specs.Valid.{received-valid, received-coded}
 use Rattle.soundness.specs.States.{home-coder-sound, coded-sound}
 use Rattle.limits.specs.Words.{Carried, home-carried, coded-carried}
 use Rattle.limits.specs.Sums.{SixSums, six-sums}
@@ -74,17 +74,12 @@ module _ (c : Coder) (m : Decoder) (waiting : Option (List ℤ)) (samples codewo
 
 -- ---- decode
 
--- a frame is received by its valid bits
-received-by : (c c′ : List ℤ) → valid c ≡ valid c′ → received c ≡ received c′
-unfolding received
-received-by c c′ e = rw e
-
--- so the decoder that catches up has decoded the frame that is handed over, whatever stands beside its valid bits
+-- the decoder that catches up has decoded the frame that is handed over, whatever stands beside its valid bits
 caught : (m : Decoder) (waiting : Option (List ℤ)) (codewords : List ℤ) → Option·map valid waiting ≡ some (valid codewords)
     → caught-up m waiting ≡ decoded m (received codewords) .0
 unfolding caught-up
 caught m none codewords e = absurd (Option·none-ne-some (valid codewords) e)
-caught m (some sent) codewords e = ap (λ f. decoded m f .0) (received-by sent codewords (Option·some-injective (valid sent) (valid codewords) e))
+caught m (some sent) codewords e = ap (λ f. decoded m f .0) (received-valid sent codewords (Option·some-injective (valid sent) (valid codewords) e))
 
 module _ (c : Coder) (m : Decoder) (waiting : Option (List ℤ)) (codewords samples : List ℤ) (h : Holds c m waiting) where
   decode-keeps : (n : ℕ) → decode-refusal m codewords samples ≡ n → let r = decode m codewords samples in

@@ -76,10 +76,15 @@ pub valid-twice : (c : List ℤ) → valid (valid c) ≡ valid c
 unfolding fits valid
 valid-twice c = all-low-own widths (valid c) (omega (arith, zip-length low-bits widths c)) (valid-fits c)
 
--- "The decoder uses valid bits only": codewords with the same valid bits are decoded alike
+-- "The decoder uses valid bits only": codewords with the same valid bits are received as the same frame
+pub received-valid : (c c′ : List ℤ) → valid c ≡ valid c′ → received c ≡ received c′
+unfolding received
+received-valid c c′ e = rw e
+
+-- and decoded alike
 pub decode-valid : (m : Decoder) (c c′ s : List ℤ) → length c ≡ length c′ → valid c ≡ valid c′ → decode m c s ≡ decode m c′ s
-unfolding decode decode-refusal received
-decode-valid m c c′ s l e = rw (l, e)
+unfolding decode decode-refusal
+decode-valid m c c′ s l e = rw (l, received-valid c c′ e)
 
 -- ---- what the coder writes the decoder reads
 
