@@ -25,6 +25,7 @@ outside: ready
 	python3 outside/mutants.py
 
 soak: ready
+	outside/proved together
 	python3 outside/compare.py --limit
 	python3 outside/compare.py --soak $(SECONDS) --seed $(SEED)
 

@@ -6,7 +6,7 @@
     python3 outside/compare.py --sequences                the published sequences, in the folder that RPELTP_SEQUENCES names
     python3 outside/compare.py --lister                   the lister's other runs: pieces, what cannot be read or written
     python3 outside/compare.py --limit                    the lister at 1,000,000 frames
-    python3 outside/compare.py --soak SECONDS --seed S    the first again and again, a new seed each round, and recordings if there are any
+    python3 outside/compare.py --soak SECONDS --seed S    the first again and again, a new seed each round, and both ends back to back; recordings if there are any
 
 The programs are those of target/bin, the second codec is built in build/ from outside/second. Status 1: a difference, or a party that
 could not be had."""
@@ -196,6 +196,15 @@ def recordings(paths, dice):
     return [run] if run.parts else []
 
 
+def back_to_back(run, seed):
+    """Both our ends on the samples of a run, frame by frame: together says so of each, and of all in its last line."""
+    lines = peers.ours('together', run.words.tobytes()).decode().splitlines()
+    apart = [line for line in lines[:-1] if not line.endswith('\ttogether')]
+    if apart or len(lines) != run.frames() + 1 or lines[-1] != f'E\t{run.frames()}\t0':
+        raise Difference(f'{run.name}, seed {seed}: not together: {(apart + lines[-1:] + ["no line"])[0]}')
+    return run.frames()
+
+
 def soak(seconds, seed):
     began, total, paths = time.monotonic(), 0, asterisk()
     print(f'recordings at hand: {len(paths)}')
@@ -204,6 +213,7 @@ def soak(seconds, seed):
         # the sounds that do not hang on the seed go through once
         kinds = None if number == 1 else signals.CHANGING
         total += from_home(seed, 20000, kinds, recordings(paths, random.Random(seed))) + from_states(seed, 4000)
+        total += sum(back_to_back(run, seed) for run in signals.sounds(seed, 20000, kinds))
         passed = time.monotonic() - began
         print(f'after round {number}: {total} frames and calls in {passed:.0f} s, {total / passed:.0f} a second, no difference', flush=True)
         if passed >= seconds:

@@ -13,7 +13,8 @@ use Rattle.standard.specs.Answers as answers
 use Rattle.standard.specs.Opened.{opened}
 use Rattle.encoder.specs.Promise.{coder, encoder-of}
 use Rattle.decoder.specs.Promise.{memory, decoder-of}
-use Rattle.ends.specs.Together.{Call, encodes, decodes, Ends, after, Handed, Shown, along, at-home, together}
+use Rattle.ends.specs.Together.{Ends, after, Handed, Shown, along, at-home, together}
+use Rattle.ends.specs.Soundly.{number}
 use Rattle.ends.specs.Outcomes.{Ask, encode, decode, call, calls, of-words, calls-made}
 
 -- so many zeros: silence, or a buffer to be filled
@@ -45,11 +46,6 @@ abbrev pub asks : List Ask
 asks =
     encode pulses (zeros 76) ∷ decode (zeros 76) (zeros 159) ∷ decode strayed (zeros 160)
     ∷ encode pulses (zeros 75) ∷ encode (zeros 160) (zeros 76) ∷ decode second-frame (zeros 160) ∷ []
-
--- a call's number
-unfoldable pub number : Call → ℕ
-number (encodes _ _ a _) = a .number
-number (decodes _ _ a _) = a .number
 
 -- two of them are refused, and no other
 pub numbers : map number (calls home asks) ≡ 0 ∷ 1 ∷ 0 ∷ 2 ∷ 0 ∷ 0 ∷ []

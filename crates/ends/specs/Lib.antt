@@ -1,7 +1,8 @@
 pub mod Agree
 pub mod Holds
 pub mod Together
+pub mod Demands
+pub mod Soundly
 pub mod Outcomes
 pub mod Example
 pub mod Useless
-pub mod Demands
