@@ -1,4 +1,4 @@
--- 01, 'Refusal numbers': what each of the four calls answers and what it leaves in the buffer that it was lent, by its number.
+-- 01, 'Refusal numbers': what each call answers and what it leaves in the buffer that it was lent, by its number.
 use Prim.Native.Nat.{ℕ, zero, suc}
 use mathlib.Core.Option.{Option, none, some}
 use mathlib.Core.List.{List, map}
@@ -9,7 +9,8 @@ use Rattle.standard.specs.Lpc.{Ending}
 use Rattle.standard.specs.Coder.{Coder, frame, coded}
 use Rattle.standard.specs.Decoder.{Decoder, decoded}
 use Rattle.standard.specs.Packed.{packed, unpacked}
-use Rattle.standard.specs.House.{Mark, mark, encode-refusal, decode-refusal, pack-refusal, unpack-refusal}
+use Rattle.standard.specs.Alaw.{alaw-octets}
+use Rattle.standard.specs.House.{Mark, mark, encode-refusal, decode-refusal, decode-alaw-refusal, pack-refusal, unpack-refusal}
 
 -- 0 means done; any other number is a refusal
 unfoldable pub answer : {A : Type 0} → ℕ → A → (ℕ → A) → A
@@ -42,6 +43,19 @@ decode m codewords samples =
     answer (decode-refusal m codewords samples)
     (record { number = 0; state = t .0; samples = t .1 })
     (λ n. record { number = n; state = m; samples = samples })
+
+-- 02, W-204: decode_alaw leaves octets where decode leaves samples. What encode_alaw answers is `encode` of the samples that the octets stand for
+pub record DecodedOctets : Type 0 where
+  pub number : ℕ
+  pub state : Decoder
+  pub octets : List ℕ
+
+unfoldable pub decode-alaw : Decoder → List ℤ → List ℕ → DecodedOctets
+decode-alaw m codewords octets =
+    let t = decoded m (received codewords) in
+    answer (decode-alaw-refusal m codewords octets)
+    (record { number = 0; state = t .0; octets = alaw-octets (t .1) })
+    (λ n. record { number = n; state = m; octets = octets })
 
 pub record Packed : Type 0 where
   pub number : ℕ

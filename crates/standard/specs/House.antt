@@ -73,6 +73,10 @@ fits c = every (λ b. b) (zipWith fit widths c)
 abbrev pub samples-row : List ℤ → Bool × ℕ
 samples-row samples = (not-of 160 samples, 1)
 
+-- octets lent are not 160: "1 counts octets here, same place" (02, W-204)
+abbrev pub octets-row : List ℕ → Bool × ℕ
+octets-row octets = (not-of 160 octets, 1)
+
 -- codewords lent are not 76
 abbrev pub codewords-row : List ℤ → Bool × ℕ
 codewords-row codewords = (not-of 76 codewords, 2)
@@ -98,6 +102,10 @@ encode-refusal c samples codewords = refusal (samples-row samples ∷ codewords-
 
 unfoldable pub decode-refusal : Decoder → List ℤ → List ℤ → ℕ
 decode-refusal m codewords samples = refusal (samples-row samples ∷ codewords-row codewords ∷ state-row (sound-decoder m) ∷ [])
+
+-- of decode_alaw; encode_alaw's is encode's, over the samples that the octets stand for
+unfoldable pub decode-alaw-refusal : Decoder → List ℤ → List ℕ → ℕ
+decode-alaw-refusal m codewords octets = refusal (octets-row octets ∷ codewords-row codewords ∷ state-row (sound-decoder m) ∷ [])
 
 unfoldable pub pack-refusal : List ℤ → List ℕ → ℕ
 pack-refusal codewords bytes = refusal (codewords-row codewords ∷ bytes-row bytes ∷ fields-row codewords ∷ [])

@@ -10,6 +10,7 @@ pub mod Coder
 pub mod Decoder
 pub mod Packed
 pub mod Files
+pub mod Alaw
 pub mod House
 pub mod Answers
 pub mod Listing
@@ -19,3 +20,4 @@ pub mod ZeroFrame
 pub mod Easy
 pub mod Edges
 pub mod Refused
+pub mod Companded
