@@ -23,6 +23,12 @@ pub record Decodes (d : Decoder) (codewords lent : List ℤ) (a : Decoded) (left
   pub state : memory (a .state) ≡ answers.decode (memory d) codewords lent .state
   pub samples : left ≡ answers.decode (memory d) codewords lent .samples
 
+-- of decode_alaw: the octets in the place of the samples (02, W-204)
+pub record DecodesAlaw (d : Decoder) (codewords : List ℤ) (lent : List ℕ) (a : Decoded) (left : List ℕ) : Type 0 where
+  pub number : a .number ≡ answers.decode-alaw (memory d) codewords lent .number
+  pub state : memory (a .state) ≡ answers.decode-alaw (memory d) codewords lent .state
+  pub octets : left ≡ answers.decode-alaw (memory d) codewords lent .octets
+
 -- ---- it determines the outcome: no two states stand for the same
 
 abbrev pub decoder-of : standard.Decoder → Decoder

@@ -1,14 +1,15 @@
-// The decoder: its state, home, and decode, which is the whole of 4.3 behind the refusals of 01. What decode promises is in
-// specs/Promise.antt.
+// The decoder: its state, home, and decode, which is the whole of 4.3 behind the refusals of 01; decode_alaw, which leaves octets. What both
+// promise is in specs/Promise.antt.
 use synthesis::Cells;
 ghost use mathlib.Core.Path.{_≡_};
 ghost use mathlib.Core.Bool.{true};
-ghost use lib.ListN.{length};
+ghost use lib.IntN.{pos};
+ghost use lib.ListN.{length, replicate};
 ghost use Rattle.standard.specs.LongTerm.{is-lag};
 ghost use Rattle.standard.specs.Frame.{received};
 ghost use Rattle.standard.specs.Decoder as standard;
 ghost use Rattle.standard.specs.House.{home-decoder, sound-decoder};
-ghost use Rattle.decoder.specs.Promise.{memory, Decodes, refused};
+ghost use Rattle.decoder.specs.Promise.{memory, Decodes, DecodesAlaw, refused};
 
 // 4.3: what is kept for the next frame. drp holds the residual's last 120 samples, the oldest first; nrp is the remembered lag.
 pub struct Decoder {
@@ -71,6 +72,13 @@ fn refuse(number: u8, m: Decoder) -> Decoded
     }
 }
 
+// Room for the samples of a frame.
+fn room() -> [i16; 160]
+    ensures { λ r. ⌜ r ≡ replicate 160 (pos 0) ⌝ }
+{
+    [0; 160]
+}
+
 impl Decoder {
     // Every carried value 0, the remembered lag 40 (4.3.2).
     pub fn home() -> Decoder
@@ -103,5 +111,20 @@ impl Decoder {
             number: 0,
             state: state,
         }
+    }
+
+    // The same as 160 octets of A-law.
+    pub fn decode_alaw(self, codewords: &[i16], octets: &mut [u8]) -> Decoded
+        ensures { λ r. ⌜ DecodesAlaw self (now (codewords .entry)) (now (octets .entry)) r (now (octets .exit)) ⌝ }
+    {
+        if octets.len() != 160 {
+            return refuse(1, self);
+        }
+        let mut samples = room();
+        let a = self.decode(codewords, &mut samples[0..160]);
+        if a.number == 0 {
+            alaw::octets(&samples[0..160], octets);
+        }
+        a
     }
 }

@@ -1,5 +1,5 @@
-// The encoder: its state, home, and encode, which is the whole of 4.2 behind the refusals of 01. What encode promises is in
-// specs/Promise.antt.
+// The encoder: its state, home, and encode, which is the whole of 4.2 behind the refusals of 01; encode_alaw, which takes octets. What both
+// promise is in specs/Promise.antt.
 use analysis::Filters;
 use reflection::Ending as Ended;
 ghost use mathlib.Core.Path.{_≡_};
@@ -11,6 +11,7 @@ ghost use lib.IntN.{pos};
 ghost use lib.ListN.{length, take, replicate};
 ghost use Rattle.standard.specs.Arithmetic.{within};
 ghost use Rattle.standard.specs.Frame.{sub-words, words};
+ghost use Rattle.standard.specs.Alaw.{alaw-samples};
 ghost use Rattle.standard.specs.Coder as standard;
 ghost use Rattle.standard.specs.House as house;
 ghost use Rattle.reflection.specs.Promise.{ended};
@@ -148,7 +149,7 @@ fn ratios(larc: [i16; 8], c: &mut [i16])
     }
 }
 
-// Room for d.
+// Room for d, or for the samples of a frame.
 fn room() -> [i16; 160]
     ensures { λ r. ⌜ r ≡ replicate 160 (pos 0) ⌝ }
 {
@@ -255,5 +256,17 @@ impl Encoder {
             ending: ending,
             marks: marks,
         }
+    }
+
+    // The same of 160 octets of A-law, over the samples that they stand for.
+    pub fn encode_alaw(self, octets: &[u8], codewords: &mut [i16]) -> Encoded
+        ensures { λ r. ⌜ Encodes self (alaw-samples (now (octets .entry))) (now (codewords .entry)) r (now (codewords .exit)) ⌝ }
+    {
+        if octets.len() != 160 {
+            return refuse(1, self);
+        }
+        let mut samples = room();
+        alaw::samples(octets, &mut samples[0..160]);
+        self.encode(&samples[0..160], codewords)
     }
 }

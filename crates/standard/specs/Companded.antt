@@ -1,17 +1,14 @@
--- 02, W-204, at its edges: the ends of each segment, the idle line, what the calls on octets refuse and hand back.
+-- 02, W-204, at its edges: the ends of each segment, what the calls on octets refuse and hand back.
 use Prim.Native.Nat.{ℕ}
 use mathlib.Core.Path.{_≡_, refl}
-use mathlib.Core.Option.{some}
-use mathlib.Core.List.{List, [], _∷_, _++_, map, flatten}
+use mathlib.Core.List.{List, [], _∷_, map}
 use lib.IntN.{ℤ, pos}
-use lib.ListN.{replicate, take, drop}
+use lib.ListN.{replicate}
 use Rattle.standard.specs.Tables.{neg}
-use Rattle.standard.specs.Lpc.{complete}
 use Rattle.standard.specs.Alaw.{expanded, compressed, alaw-samples, alaw-octets}
-use Rattle.standard.specs.House.{home-coder, home-decoder, rule, encode-refusal, decode-alaw-refusal}
-use Rattle.standard.specs.Answers.{Encoded, encode, decode-alaw}
+use Rattle.standard.specs.House.{home-coder, home-decoder, encode-refusal, decode-alaw-refusal}
+use Rattle.standard.specs.Answers.{decode-alaw}
 use Rattle.standard.specs.Opened.{opened}
-use Rattle.standard.specs.ZeroFrame.{zero-frame}
 use Rattle.standard.specs.Refused.{coder-with, decoder-with}
 
 -- ---- codes and values
@@ -54,27 +51,6 @@ codes = record {
   samples = refl;
   octets = refl;
 }
-
--- ---- the idle line: code D5 over and over, which is sample 8 and not 0
-
-unfoldable pub idle : Encoded
-idle = encode home-coder (alaw-samples (replicate 160 213)) (replicate 76 (pos 1))
-
-unfoldable pub idle-frame : List ℤ
-unfolding flatten
-idle-frame =
-    map pos (9 ∷ 23 ∷ 15 ∷ 8 ∷ 7 ∷ 3 ∷ 3 ∷ 2 ∷ flatten (replicate 3 (40 ∷ 0 ∷ 0 ∷ 0 ∷ replicate 13 4)) ++ (40 ∷ 0 ∷ 0 ∷ 0 ∷ 4 ∷ 4 ∷ 4 ∷ 4 ∷ 3 ∷ replicate 8 4))
-
-pub record Idle : Type 0 where
-  pub number : idle .number ≡ 0
-  pub codewords : idle .codewords ≡ idle-frame
-  pub ending : idle .ending ≡ some complete
-  pub marks : idle .marks ≡ replicate 4 (some rule)
-  pub first-heard : take 12 (decode-alaw home-decoder zero-frame (replicate 160 1) .octets) ≡ replicate 6 213 ++ (212 ∷ 213 ∷ 213 ∷ 212 ∷ 212 ∷ 213 ∷ [])
-
-pub idles : Idle
-unfolding opened idle idle-frame zero-frame
-idles = record { number = refl; codewords = refl; ending = refl; marks = refl; first-heard = refl }
 
 -- ---- refusals: "1 counts octets here, same place"; the lowest of several
 

@@ -3,3 +3,4 @@ pub mod Made
 pub mod Decoding
 pub mod Packing
 pub mod Listing
+pub mod Idle

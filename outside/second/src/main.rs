@@ -1,10 +1,12 @@
 //! A second GSM full rate codec (ETS 300 961), written from clause 4 to compare another with.
-//! `second MODE < input > output`, MODE being encode, decode, list, pack, unpack or calls.
+//! `second MODE < input > output`, MODE being encode, decode, list, pack, unpack, calls, or of
+//! A-law expand, compress, compress-samples, encode-alaw or decode-alaw.
 
 #![forbid(unsafe_code)]
 // The names and the loops are those of 001.
 #![allow(non_snake_case, clippy::needless_range_loop, clippy::manual_memcpy)]
 
+mod alaw;
 mod arithmetic;
 mod calls;
 mod codewords;
@@ -23,9 +25,14 @@ mod words;
 #[cfg(test)]
 mod worked_by_hand;
 
+use alaw::{octets_of_samples, samples_of_octets};
 use std::io::{self, BufWriter, Read, Write};
 use std::process::exit;
 use words::{words_of, write_words};
+
+/// The modes: what is said of a mode that is none.
+const USAGE: &str = "usage: second encode|decode|list|pack|unpack|calls\
+    |expand|compress|compress-samples|encode-alaw|decode-alaw";
 
 /// The modes: 0 for done, 1 for a refused frame, 2 for anything else.
 fn main() {
@@ -55,7 +62,12 @@ fn run(mode: &str) -> io::Result<i16> {
         "pack" => pack(&input, &mut output)?,
         "unpack" => unpack(&input, &mut output)?,
         "calls" => calls(&input, &mut output)?,
-        _ => return Err(fault("usage: second encode|decode|list|pack|unpack|calls")),
+        "expand" => expand(&input, &mut output)?,
+        "compress" => compress(&input, &mut output)?,
+        "compress-samples" => compress_samples(&input, &mut output)?,
+        "encode-alaw" => encode_alaw(&input, &mut output)?,
+        "decode-alaw" => decode_alaw(&input, &mut output)?,
+        _ => return Err(fault(USAGE)),
     };
     output.flush()?;
     Ok(refusal)
@@ -130,14 +142,66 @@ fn unpack(input: &[u8], output: &mut dyn Write) -> io::Result<i16> {
     Ok(0)
 }
 
-/// A record: one call a record of 880 bytes.
+/// A record: one call a record of 1536 bytes.
 fn calls(input: &[u8], output: &mut dyn Write) -> io::Result<i16> {
-    for bytes in input.chunks_exact(880) {
+    for bytes in input.chunks_exact(1536) {
         match calls::call(&words_of(bytes)) {
             Some(answer) => write_words(output, &answer)?,
-            None => return Err(fault("a record names no call, or lends more than its room")),
+            None => return Err(fault("a record lends more than its room")),
         }
     }
-    tell_rest(input.len() % 880);
+    tell_rest(input.len() % 1536);
+    Ok(0)
+}
+
+/// 02, W-204: each octet to the sample that it stands for.
+fn expand(input: &[u8], output: &mut dyn Write) -> io::Result<i16> {
+    for octet in input {
+        write_words(output, &samples_of_octets(&[*octet]))?;
+    }
+    Ok(0)
+}
+
+/// 02, W-204: each word, a value on the 13-bit scale, to an octet.
+fn compress(input: &[u8], output: &mut dyn Write) -> io::Result<i16> {
+    for bytes in input.chunks_exact(2) {
+        let octets = words_of::<1>(bytes).map(alaw::compress);
+        output.write_all(&octets)?;
+    }
+    tell_rest(input.len() % 2);
+    Ok(0)
+}
+
+/// 02, W-204: each sample to an octet.
+fn compress_samples(input: &[u8], output: &mut dyn Write) -> io::Result<i16> {
+    for bytes in input.chunks_exact(2) {
+        output.write_all(&octets_of_samples(&words_of::<1>(bytes)))?;
+    }
+    tell_rest(input.len() % 2);
+    Ok(0)
+}
+
+/// 02, W-204: 160 octets a frame to 76 codewords a frame, from home.
+fn encode_alaw(input: &[u8], output: &mut dyn Write) -> io::Result<i16> {
+    let mut state = encoder::encoder_home();
+    for bytes in input.chunks_exact(160) {
+        let mut octets = [0; 160];
+        octets.copy_from_slice(bytes);
+        let (frame, _ending) = encoder::encode(&mut state, &samples_of_octets(&octets));
+        write_words(output, &codewords::to_codewords(&frame))?;
+    }
+    tell_rest(input.len() % 160);
+    Ok(0)
+}
+
+/// 02, W-204: 76 codewords a frame to 160 octets a frame, from home.
+fn decode_alaw(input: &[u8], output: &mut dyn Write) -> io::Result<i16> {
+    let mut state = decoder::decoder_home();
+    for bytes in input.chunks_exact(152) {
+        let frame = codewords::from_codewords(&words_of(bytes));
+        let samples = decoder::decode(&mut state, &frame);
+        output.write_all(&octets_of_samples(&samples))?;
+    }
+    tell_rest(input.len() % 152);
     Ok(0)
 }
