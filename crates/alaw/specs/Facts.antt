@@ -6,14 +6,16 @@ use mathlib.Core.List.{List}
 use native.Mathlib.Omega.{arith}
 use lib.Dec.{eqb, leb, ltb}
 use lib.IntN.{ℤ, pos, negsuc, natAbs, _*ℤ_}
+use lib.ListN.{length, length-map}
 use borrow.Author.Tests.{eqb-true, leb-true, ltb-true}
 use Rattle.integers.specs.Halves.{abs-is}
 use Rattle.integers.specs.Sums.{neg-is, scale-is}
 use Rattle.lists.specs.First.{first, by-cond}
 use Rattle.lists.specs.Every.{every, every-tab, every-map, every-all}
 use Rattle.lists.specs.Tab.{tab}
+use Rattle.standard.specs.Arithmetic.{_>>_}
 use Rattle.standard.specs.Tables.{neg}
-use Rattle.standard.specs.Alaw.{turned, magnitude, expanded, in-segment, segment, placed, compressed, limited, alaw-samples}
+use Rattle.standard.specs.Alaw.{turned, magnitude, expanded, in-segment, segment, placed, compressed, limited, alaw-samples, alaw-octets}
 use Rattle.arithmetic.specs.Within.{word, range-yes}
 use Rattle.alaw.specs.Rules.{placed-below}
 
@@ -114,3 +116,13 @@ sample-word c =
 pub samples-words : (octets : List ℕ) → every word (alaw-samples octets) ≡ true
 unfolding alaw-samples
 samples-words octets = rw every-map (every-all (λ c. word (expanded c *ℤ pos 8)) sample-word octets)
+
+-- ---- one for one
+
+pub samples-length : (octets : List ℕ) → length (alaw-samples octets) ≡ length octets
+unfolding alaw-samples
+samples-length octets = length-map octets (λ code. expanded code *ℤ pos 8)
+
+pub octets-length : (samples : List ℤ) → length (alaw-octets samples) ≡ length samples
+unfolding alaw-octets
+octets-length samples = length-map samples (λ x. compressed (x >> 3))

@@ -1,15 +1,18 @@
--- What decode promises: its answer and the samples it leaves, read as 01's, are those of the definition.
-use Prim.Native.Nat.{ℕ, suc}
-use mathlib.Core.Path.{_≡_, sym, ap, _∙_}
-use mathlib.Core.List.{List}
-use lib.IntN.{ℤ}
+-- What decode and decode_alaw promise: their answer and the samples or the octets they leave, read as 01's, are those of the definitions.
+use Prim.Native.Nat.{ℕ, zero, suc}
+use mathlib.Core.Path.{_≡_, refl, sym, ap, _∙_}
+use mathlib.Core.List.{List, map}
+use lib.IntN.{ℤ, pos}
+use lib.ListN.{length, length-map}
 use Rattle.decoder.specs.declared.Decoder.{Decoder}
 use Rattle.decoder.specs.declared.Decoded.{Decoded}
 use Rattle.standard.specs.Decoder as standard
 use Rattle.standard.specs.Frame.{received}
-use Rattle.standard.specs.House.{decode-refusal}
+use Rattle.standard.specs.Alaw.{alaw-octets}
+use Rattle.standard.specs.House.{decode-refusal, decode-alaw-refusal}
 use Rattle.standard.specs.Answers as answers
-use Rattle.refusals.specs.Calls.{decode-done, decode-refused}
+use Rattle.standard.specs.Answers.{answer}
+use Rattle.refusals.specs.Calls.{decode-done, decode-refused, decode-alaw-like, decode-alaw-as, decode-alaw-done, decode-alaw-refused}
 
 -- what the state stands for
 unfoldable pub memory : Decoder → standard.Decoder
@@ -80,3 +83,51 @@ pub done-keeps : (d : Decoder) (codewords lent : List ℤ) (s : Decoder) (left :
 done-keeps d codewords lent s left h p q =
     let r = decode-done (memory d) codewords lent h in
     record { number = rw r; state = rw r p; samples = rw r q }
+
+-- ---- decode_alaw
+
+-- any two outcomes that satisfy its promise are equal
+pub one-octets : (d : Decoder) (codewords : List ℤ) (lent : List ℕ) (a b : Decoded) (l r : List ℕ)
+    → DecodesAlaw d codewords lent a l → DecodesAlaw d codewords lent b r → (a ≡ b) × (l ≡ r)
+one-octets d codewords lent a b l r p q =
+    let state = same-state (a .state) (b .state) (p .state ∙ sym (q .state)) in
+    (same-answer (p .number ∙ sym (q .number)) state, p .octets ∙ sym (q .octets))
+
+module _ (d : Decoder) (codewords : List ℤ) (lent : List ℕ) (n : ℕ) (h : decode-alaw-refusal (memory d) codewords lent ≡ suc n) where
+  -- a refusal keeps it, with the octets as they were lent
+  pub refusal-keeps-octets : DecodesAlaw d codewords lent (refused (suc n) d) lent
+  unfolding refused
+  refusal-keeps-octets =
+      let r = decode-alaw-refused (memory d) codewords lent n h in
+      record { number = rw r; state = rw r; octets = rw r }
+
+  -- and nothing else does
+  pub one-octets-refusal : (a : Decoded) (left : List ℕ) → DecodesAlaw d codewords lent a left → (a ≡ refused (suc n) d) × (left ≡ lent)
+  one-octets-refusal a left p = one-octets d codewords lent a (refused (suc n) d) left lent p refusal-keeps-octets
+
+module _ (d : Decoder) (codewords samples : List ℤ) (a : Decoded) (left : List ℤ) (p : Decodes d codewords samples a left) (lent : List ℕ) where
+  by-number : (n : ℕ) → decode-refusal (memory d) codewords samples ≡ n → length lent ≡ length samples
+      → DecodesAlaw d codewords lent a (answer (a .number) (alaw-octets left) (λ _. lent))
+  unfolding answer
+  by-number zero e l =
+      let r = decode-done (memory d) codewords samples e in
+      let q = decode-alaw-done (memory d) codewords lent (decode-alaw-like (memory d) codewords lent samples l ∙ e) in
+      let number : a .number ≡ 0 = rw r at (p .number) in
+      let same : left ≡ standard.decoded (memory d) (received codewords) .1 = rw r at (p .samples) in
+      record { number = rw (q, number); state = rw q (rw r at (p .state)); octets = rw (q, number, same) }
+  by-number (suc n) e l =
+      let r = decode-refused (memory d) codewords samples n e in
+      let q = decode-alaw-refused (memory d) codewords lent n (decode-alaw-like (memory d) codewords lent samples l ∙ e) in
+      let number : a .number ≡ suc n = rw r at (p .number) in
+      record { number = rw (q, number); state = rw q (rw r at (p .state)); octets = rw (q, number) }
+
+  -- what decode answers, and its samples as octets where it is done, keep it: decode_alaw is decode, heard as A-law
+  pub octets-keep : length lent ≡ length samples → DecodesAlaw d codewords lent a (answer (a .number) (alaw-octets left) (λ _. lent))
+  octets-keep = by-number (decode-refusal (memory d) codewords samples) refl
+
+module _ (d : Decoder) (codewords : List ℤ) (lent : List ℕ) (a : Decoded) (left : List ℕ) (p : DecodesAlaw d codewords lent a left) where
+  -- number and state are those of decode, lent as many samples
+  pub octets-decode : Decodes d codewords (map pos lent) a (answers.decode (memory d) codewords (map pos lent) .samples)
+  octets-decode =
+      let e = decode-alaw-as (memory d) codewords lent (map pos lent) (sym (length-map lent pos)) in
+      record { number = p .number ∙ e .0; state = p .state ∙ e .1; samples = refl }

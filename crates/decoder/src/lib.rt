@@ -121,9 +121,9 @@ impl Decoder {
             return refuse(1, self);
         }
         let mut samples = room();
-        let a = self.decode(codewords, &mut samples[0..160]);
+        let a = self.decode(codewords, &mut samples);
         if a.number == 0 {
-            alaw::octets(&samples[0..160], octets);
+            alaw::octets(&samples, octets);
         }
         a
     }

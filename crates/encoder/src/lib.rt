@@ -266,7 +266,7 @@ impl Encoder {
             return refuse(1, self);
         }
         let mut samples = room();
-        alaw::samples(octets, &mut samples[0..160]);
-        self.encode(&samples[0..160], codewords)
+        alaw::samples(octets, &mut samples);
+        self.encode(&samples, codewords)
     }
 }

@@ -5,16 +5,19 @@ use mathlib.Core.Option.{some}
 use mathlib.Core.List.{List, map}
 use lib.Dec.{eqb}
 use lib.IntN.{ℤ}
+use lib.ListN.{length}
 use Rattle.lists.specs.Every.{every}
 use Rattle.standard.specs.Frame.{words, received}
 use Rattle.standard.specs.Coder.{coded, frame}
 use Rattle.standard.specs.Decoder as standard
 use Rattle.standard.specs.Packed.{packed, unpacked, spare}
-use Rattle.standard.specs.House.{sound-coder, sound-decoder, fits, pack-refusal, unpack-refusal}
+use Rattle.standard.specs.Alaw.{alaw-samples, alaw-octets}
+use Rattle.standard.specs.House.{sound-coder, sound-decoder, fits, decode-alaw-refusal, pack-refusal, unpack-refusal}
 use Rattle.standard.specs.House as house
-use Rattle.refusals.specs.Rows.{Exactly}
-use Rattle.refusals.specs.Calls.{encode-exactly, encode-done, decode-exactly, decode-done}
+use Rattle.refusals.specs.Rows.{Exactly, exactly-as, answer-done}
+use Rattle.refusals.specs.Calls.{encode-exactly, encode-done, decode-exactly, decode-done, decode-alaw-exactly, decode-alaw-number, decode-alaw-done}
 use Rattle.refusals.specs.Calls.{pack-exactly, pack-number, pack-done, unpack-exactly, unpack-number, unpack-done}
+use Rattle.alaw.specs.Facts.{samples-length}
 use Rattle.encoder.specs.declared.Encoder.{Encoder}
 use Rattle.encoder.specs.declared.Encoded.{Encoded}
 use Rattle.encoder.specs.Promise.{coder, ending, marks, Encodes}
@@ -22,7 +25,7 @@ use Rattle.encoder.specs.Promise as encoder
 use Rattle.encoder.specs.Calls as encoder-calls
 use Rattle.decoder.specs.declared.Decoder.{Decoder}
 use Rattle.decoder.specs.declared.Decoded.{Decoded}
-use Rattle.decoder.specs.Promise.{memory, Decodes}
+use Rattle.decoder.specs.Promise.{memory, Decodes, DecodesAlaw}
 use Rattle.decoder.specs.Promise as decoder
 use Rattle.decoder.specs.Calls as decoder-calls
 use Rattle.packing.specs.Promise.{Packs, packing-refused, Unpacks, unpacking-refused}
@@ -46,6 +49,20 @@ module _ (e : Encoder) (samples lent : List ℤ) (a : Encoded) (left : List ℤ)
       let d = encode-done (coder e) samples lent (sym (encoder-calls.number-is e samples lent a left p) ∙ h) in
       (rw d at (p .state), rw d at (p .codewords), rw d at (p .ending), rw d at (p .marks))
 
+-- encode_alaw: all of this over the samples that the octets stand for; the first number counts octets
+module _ (e : Encoder) (octets : List ℕ) (lent : List ℤ) (a : Encoded) (left : List ℤ) (p : Encodes e (alaw-samples octets) lent a left) where
+  pub encode-alaw-refuses : Exactly (a .number) 160 76 1 2 3 octets lent (sound-coder (coder e))
+  encode-alaw-refuses =
+      exactly-as (a .number) 160 76 1 2 3 (alaw-samples octets) octets lent _ (sym (samples-length octets)) (encode-refuses e (alaw-samples octets) lent a left p)
+
+  pub encode-alaw-hands-back : (n : ℕ) → a .number ≡ suc n → (a ≡ encoder.refused (suc n) e) × (left ≡ lent)
+  encode-alaw-hands-back = encode-hands-back e (alaw-samples octets) lent a left p
+
+  pub encode-alaw-equals : a .number ≡ 0 → let t = coded (coder e) (alaw-samples octets) in
+      (coder (a .state) ≡ t .0) × (left ≡ words (frame (t .1)))
+      × (ending (a .ending) ≡ some (t .1 .ending)) × (marks (a .marks) ≡ map (λ s. some (house.mark s)) (t .1 .subframes))
+  encode-alaw-equals = encode-equals e (alaw-samples octets) lent a left p
+
 -- ---- decode
 
 module _ (m : Decoder) (codewords lent : List ℤ) (a : Decoded) (left : List ℤ) (p : Decodes m codewords lent a left) where
@@ -61,6 +78,31 @@ module _ (m : Decoder) (codewords lent : List ℤ) (a : Decoded) (left : List �
   decode-equals h =
       let d = decode-done (memory m) codewords lent (sym (decoder-calls.number-is m codewords lent a left p) ∙ h) in
       (rw d at (p .state), rw d at (p .samples))
+
+module _ (m : Decoder) (codewords : List ℤ) (lent : List ℕ) (a : Decoded) (left : List ℕ) (p : DecodesAlaw m codewords lent a left) where
+  is-decode-alaw's : a .number ≡ decode-alaw-refusal (memory m) codewords lent
+  is-decode-alaw's = p .number ∙ decode-alaw-number (memory m) codewords lent
+
+  -- demand 1, where the first number counts octets
+  pub decode-alaw-refuses : Exactly (a .number) 160 76 1 2 3 lent codewords (sound-decoder (memory m))
+  decode-alaw-refuses = rw is-decode-alaw's (decode-alaw-exactly (memory m) codewords lent)
+
+  pub decode-alaw-hands-back : (n : ℕ) → a .number ≡ suc n → (a ≡ decoder.refused (suc n) m) × (left ≡ lent)
+  decode-alaw-hands-back n h = decoder.one-octets-refusal m codewords lent n (sym is-decode-alaw's ∙ h) a left p
+
+  -- demand 2: the state is 4.3's, the octets are those of 4.3's samples
+  pub decode-alaw-equals : a .number ≡ 0 → let t = standard.decoded (memory m) (received codewords) in
+      (memory (a .state) ≡ t .0) × (left ≡ alaw-octets (t .1))
+  decode-alaw-equals h =
+      let d = decode-alaw-done (memory m) codewords lent (sym is-decode-alaw's ∙ h) in
+      (rw d at (p .state), rw d at (p .octets))
+
+  -- the two decodes agree: from one state and one frame, lent as much, they have one answer, and the octets are those of the samples
+  pub octets-of-samples : (samples : List ℤ) (b : Decoded) (heard : List ℤ) → length lent ≡ length samples → Decodes m codewords samples b heard
+      → (a ≡ b) × (a .number ≡ 0 → left ≡ alaw-octets heard)
+  octets-of-samples samples b heard l q =
+      let (same, all) = decoder.one-octets m codewords lent a b left _ p (decoder.octets-keep m codewords samples b heard q lent l) in
+      (same, λ n. all ∙ answer-done (b .number) (alaw-octets heard) (λ _. lent) (rw same at n))
 
 -- ---- pack and unpack
 

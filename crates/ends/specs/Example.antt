@@ -15,7 +15,7 @@ use Rattle.encoder.specs.Promise.{coder, encoder-of}
 use Rattle.decoder.specs.Promise.{memory, decoder-of}
 use Rattle.ends.specs.Together.{Ends, after, Handed, Shown, along, at-home, together}
 use Rattle.ends.specs.Soundly.{number}
-use Rattle.ends.specs.Outcomes.{Ask, encode, decode, call, calls, of-words, calls-made}
+use Rattle.ends.specs.Outcomes.{Ask, encode, encode-alaw, decode, decode-alaw, call, calls, of-words, calls-made}
 
 -- so many zeros: silence, or a buffer to be filled
 abbrev pub zeros : ℕ → List ℤ
@@ -38,23 +38,32 @@ strayed = pos 106 ∷ neg 26 ∷ pos 121 ∷ neg 241 ∷ pos 1610 ∷ neg 4090 �
 unfoldable pub second-frame : List ℤ
 second-frame = map pos (1 ∷ 28 ∷ 19 ∷ 11 ∷ 8 ∷ 2 ∷ 4 ∷ 1 ∷ 117 ∷ 0 ∷ 1 ∷ 12 ∷ 4 ∷ 4 ∷ 4 ∷ 3 ∷ 3 ∷ 4 ∷ 4 ∷ 4 ∷ 4 ∷ 4 ∷ 4 ∷ 4 ∷ 0 ∷ 118 ∷ 0 ∷ 2 ∷ 12 ∷ 4 ∷ 4 ∷ 4 ∷ 4 ∷ 4 ∷ 4 ∷ 4 ∷ 4 ∷ 4 ∷ 4 ∷ 4 ∷ 4 ∷ 0 ∷ 40 ∷ 0 ∷ 2 ∷ 0 ∷ 3 ∷ 3 ∷ 3 ∷ 3 ∷ 3 ∷ 3 ∷ 3 ∷ 3 ∷ 3 ∷ 3 ∷ 3 ∷ 3 ∷ 3 ∷ 108 ∷ 0 ∷ 1 ∷ 0 ∷ 4 ∷ 3 ∷ 3 ∷ 3 ∷ 3 ∷ 3 ∷ 3 ∷ 3 ∷ 3 ∷ 4 ∷ 3 ∷ 4 ∷ 3 ∷ [])
 
+-- code D5 of A-law over and over: a line on which nobody speaks
+abbrev pub idle : ℕ → List ℕ
+idle n = replicate n 213
+
+-- the frame of such a line after the pulses
+unfoldable pub idle-frame : List ℤ
+idle-frame = map pos (8 ∷ 25 ∷ 17 ∷ 10 ∷ 8 ∷ 4 ∷ 3 ∷ 2 ∷ 118 ∷ 0 ∷ 2 ∷ 12 ∷ 4 ∷ 4 ∷ 4 ∷ 3 ∷ 4 ∷ 4 ∷ 4 ∷ 4 ∷ 4 ∷ 4 ∷ 4 ∷ 4 ∷ 0 ∷ 40 ∷ 0 ∷ 2 ∷ 0 ∷ 4 ∷ 4 ∷ 3 ∷ 4 ∷ 3 ∷ 3 ∷ 3 ∷ 3 ∷ 3 ∷ 3 ∷ 3 ∷ 3 ∷ 3 ∷ 106 ∷ 0 ∷ 1 ∷ 0 ∷ 4 ∷ 4 ∷ 4 ∷ 4 ∷ 4 ∷ 4 ∷ 4 ∷ 4 ∷ 4 ∷ 4 ∷ 4 ∷ 3 ∷ 4 ∷ 40 ∷ 0 ∷ 0 ∷ 0 ∷ 4 ∷ 4 ∷ 4 ∷ 4 ∷ 4 ∷ 4 ∷ 4 ∷ 4 ∷ 4 ∷ 4 ∷ 4 ∷ 4 ∷ 4 ∷ [])
+
 abbrev home : Ends
 home = at-home (encoder-of home-coder) (decoder-of home-decoder)
 
--- the pulses are coded; a decode into 159 samples is refused; the frame is handed over with its stray bits; an encode into 75 codewords is refused; silence is coded; its frame is handed over
+-- the pulses are coded; a decode_alaw into 159 octets is refused; the frame is handed over with its stray bits, and heard as octets; an encode into 75 codewords is refused; octets of an
+-- idle line are coded; their frame is handed over, and heard as samples
 abbrev pub asks : List Ask
 asks =
-    encode pulses (zeros 76) ∷ decode (zeros 76) (zeros 159) ∷ decode strayed (zeros 160)
-    ∷ encode pulses (zeros 75) ∷ encode (zeros 160) (zeros 76) ∷ decode second-frame (zeros 160) ∷ []
+    encode pulses (zeros 76) ∷ decode-alaw (zeros 76) (idle 159) ∷ decode-alaw strayed (idle 160)
+    ∷ encode pulses (zeros 75) ∷ encode-alaw (idle 160) (zeros 76) ∷ decode idle-frame (zeros 160) ∷ []
 
 -- two of them are refused, and no other
 pub numbers : map number (calls home asks) ≡ 0 ∷ 1 ∷ 0 ∷ 2 ∷ 0 ∷ 0 ∷ []
-unfolding opened calls call after number coder memory pulses strayed second-frame
+unfolding opened calls call after number coder memory pulses strayed idle-frame
 numbers = refl
 
 -- these calls meet what is asked
 pub meets : along Handed home (calls home asks)
-unfolding opened along calls call after Handed coder memory pulses strayed second-frame
+unfolding opened along calls call after Handed coder memory pulses strayed idle-frame
 meets = (λ _. refl, (λ n. absurd (suc-ne-zero 0 n), (λ _. refl, (λ _. refl, (λ _. refl, (λ _. refl, tt))))))
 
 -- so demand 3 speaks of them

@@ -6,9 +6,10 @@ use mathlib.Core.Bool.{true}
 use mathlib.Core.Option.{Option, none, some}
 use mathlib.Core.List.{List}
 use lib.IntN.{ℤ, pos, natAbs}
-use lib.ListN.{length, drop}
+use lib.ListN.{length, getD, drop}
 use Rattle.standard.specs.Tables.{_at_}
 use Rattle.standard.specs.Lpc as lpc
+use Rattle.standard.specs.Alaw.{alaw-samples}
 use Rattle.standard.specs.House.{home-coder, home-decoder, sound-coder, sound-decoder}
 use Rattle.standard.specs.Answers as answers
 use Rattle.standard.specs.Opened.{opened}
@@ -21,9 +22,10 @@ use Rattle.encoder.specs.Promise.{coder, ending, Encodes}
 use Rattle.encoder.specs.Calls as encoder
 use Rattle.decoder.specs.declared.Decoder.{Decoder}
 use Rattle.decoder.specs.declared.Decoded.{Decoded}
-use Rattle.decoder.specs.Promise.{memory, Decodes}
+use Rattle.decoder.specs.Promise.{memory, Decodes, DecodesAlaw}
 use Rattle.decoder.specs.Calls as decoder
-use Rattle.ends.specs.Example.{zeros, pulses, first-frame, second-frame}
+use Rattle.ends.specs.Example.{zeros, idle, pulses, first-frame, second-frame}
+use Rattle.ends.specs.Demands.{encode-alaw-refuses, decode-alaw-refuses}
 
 -- two numbers that are not the same
 unlike : (m n : ℕ) → ¬ (m ≡ n) → ¬ (pos m ≡ pos n)
@@ -48,6 +50,15 @@ pub refuses-frames : (d : Decoder) (codewords lent : List ℤ) (a : Decoded) (le
 refuses-frames d codewords lent a left l k s n p =
     n (decoder.number-is d codewords lent a left p ∙ decode-exactly (memory d) codewords lent .allows l k s)
 
+-- and so on octets
+pub refuses-octets : (e : Encoder) (octets : List ℕ) (lent : List ℤ) (a : Encoded) (left : List ℤ)
+    → length octets ≡ 160 → length lent ≡ 76 → sound-coder (coder e) ≡ true → ¬ (a .number ≡ 0) → ¬ Encodes e (alaw-samples octets) lent a left
+refuses-octets e octets lent a left l k s n p = n (encode-alaw-refuses e octets lent a left p .allows l k s)
+
+pub refuses-heard : (d : Decoder) (codewords : List ℤ) (lent : List ℕ) (a : Decoded) (left : List ℕ)
+    → length lent ≡ 160 → length codewords ≡ 76 → sound-decoder (memory d) ≡ true → ¬ (a .number ≡ 0) → ¬ DecodesAlaw d codewords lent a left
+refuses-heard d codewords lent a left l k s n p = n (decode-alaw-refuses d codewords lent a left p .allows l k s)
+
 -- ---- from home: what pulses, silence and their frames come to, computed
 
 pub record Computed : Type 0 where
@@ -58,10 +69,24 @@ pub record Computed : Type 0 where
   pub decoded-oldest : answers.decode home-decoder first-frame (zeros 160) .state .drp at 0 ≡ pos 3808
   pub first-sample : answers.decode home-decoder first-frame (zeros 160) .samples at 0 ≡ pos 3584
   pub other-sample : answers.decode home-decoder second-frame (zeros 160) .samples at 0 ≡ pos 0
+  pub first-octet : getD (answers.decode-alaw home-decoder first-frame (idle 160) .octets) 0 0 ≡ 153
+  pub other-octet : getD (answers.decode-alaw home-decoder second-frame (idle 160) .octets) 0 0 ≡ 213
+  pub idle-ratio : answers.encode home-coder (alaw-samples (idle 160)) (zeros 76) .codewords at 0 ≡ pos 9
 
 computed : Computed
 unfolding opened pulses first-frame second-frame zero-frame
-computed = record { frame = refl; ending = refl; oldest = refl; silence = refl; decoded-oldest = refl; first-sample = refl; other-sample = refl }
+computed = record {
+  frame = refl;
+  ending = refl;
+  oldest = refl;
+  silence = refl;
+  decoded-oldest = refl;
+  first-sample = refl;
+  other-sample = refl;
+  first-octet = refl;
+  other-octet = refl;
+  idle-ratio = refl;
+}
 
 -- ---- so no outcome that keeps the promise is one of these
 
@@ -122,3 +147,24 @@ module _ (d : Decoder) (h : memory d ≡ home-decoder) (a : Decoded) (w : List �
       = ap (λ m. m .drp at 0) (p .state) ∙ ap (λ m. answers.decode m first-frame (zeros 160) .state .drp at 0) h ∙ computed .decoded-oldest
       in
       unlike 3808 0 (omega arith) (sym moved ∙ ap (λ m. m .drp at 0) (ap memory s ∙ h))
+
+-- the same octets for every frame
+pub constant-octets : (d : Decoder) → memory d ≡ home-decoder → (a b : Decoded) (w : List ℕ)
+    → DecodesAlaw d first-frame (idle 160) a w → ¬ DecodesAlaw d second-frame (idle 160) b w
+constant-octets d h a b w p q =
+    let own : getD w 0 0 ≡ 153
+    = ap (λ o. getD o 0 0) (p .octets ∙ ap (λ m. answers.decode-alaw m first-frame (idle 160) .octets) h) ∙ computed .first-octet
+    in
+    let other : getD w 0 0 ≡ 213
+    = ap (λ o. getD o 0 0) (q .octets ∙ ap (λ m. answers.decode-alaw m second-frame (idle 160) .octets) h) ∙ computed .other-octet
+    in
+    absurd (omega arith)
+
+-- the frame of silence for an idle line: D5 is sample 8
+pub idle-as-silence : (e : Encoder) → coder e ≡ home-coder → (a : Encoded) → ¬ Encodes e (alaw-samples (idle 160)) (zeros 76) a zero-frame
+unfolding zero-frame
+idle-as-silence e h a p =
+    let own : zero-frame at 0 ≡ pos 9
+    = ap (λ c. c at 0) (p .codewords ∙ ap (λ c. answers.encode c (alaw-samples (idle 160)) (zeros 76) .codewords) h) ∙ computed .idle-ratio
+    in
+    unlike 32 9 (omega arith) own

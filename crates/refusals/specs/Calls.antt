@@ -1,18 +1,19 @@
--- 01, 'Refusal numbers', of the four calls: each number exactly when; and what a refusal hands back.
-use mathlib.Core.Path.{_≡_, refl}
+-- 01, 'Refusal numbers', of each call: each number exactly when; and what a refusal hands back.
+use mathlib.Core.Path.{_≡_, refl, _∙_}
 use mathlib.Core.Option.{none, some}
 use mathlib.Core.List.{List, map}
-use Prim.Native.Nat.{ℕ, suc}
+use Prim.Native.Nat.{ℕ, zero, suc}
 use lib.Dec.{eqb}
 use lib.IntN.{ℤ}
-use lib.ListN.{replicate}
+use lib.ListN.{length, replicate}
 use Rattle.lists.specs.Every.{every}
 use Rattle.standard.specs.Coder.{Coder, coded, frame}
 use Rattle.standard.specs.Frame.{words, received}
 use Rattle.standard.specs.Decoder.{Decoder, decoded}
 use Rattle.standard.specs.Packed.{packed, unpacked, spare}
-use Rattle.standard.specs.House.{mark, sound-coder, sound-decoder, fits, encode-refusal, decode-refusal, pack-refusal, unpack-refusal}
-use Rattle.standard.specs.Answers.{answer, Encoded, encode, Decoded, decode, Packed, pack, Unpacked, unpack}
+use Rattle.standard.specs.Alaw.{alaw-octets}
+use Rattle.standard.specs.House.{mark, sound-coder, sound-decoder, fits, encode-refusal, decode-refusal, decode-alaw-refusal, pack-refusal, unpack-refusal}
+use Rattle.standard.specs.Answers.{answer, Encoded, encode, Decoded, decode, DecodedOctets, decode-alaw, Packed, pack, Unpacked, unpack}
 use Rattle.refusals.specs.Rows.{Exactly, three, answer-number}
 
 module _ (c : Coder) (s w : List ℤ) where
@@ -59,6 +60,43 @@ module _ (m : Decoder) (w s : List ℤ) where
   pub decode-refused : (n : ℕ) → decode-refusal m w s ≡ suc n → decode m w s ≡ record { number = suc n; state = m; samples = s }
   unfolding decode answer
   decode-refused n e = rw e
+
+module _ (m : Decoder) (w : List ℤ) (o : List ℕ) where
+  -- and decode_alaw, whose first number counts octets
+  pub decode-alaw-exactly : Exactly (decode-alaw-refusal m w o) 160 76 1 2 3 o w (sound-decoder m)
+  unfolding decode-alaw-refusal
+  decode-alaw-exactly = three 160 76 0 1 2 o w (sound-decoder m)
+
+  -- lent as many octets as samples, it gives decode's number
+  pub decode-alaw-like : (s : List ℤ) → length o ≡ length s → decode-alaw-refusal m w o ≡ decode-refusal m w s
+  unfolding decode-alaw-refusal decode-refusal
+  decode-alaw-like s l = rw l
+
+  -- the number answered is this one
+  pub decode-alaw-number : decode-alaw m w o .number ≡ decode-alaw-refusal m w o
+  unfolding decode-alaw
+  decode-alaw-number = answer-number (λ (r : DecodedOctets). r .number) (decode-alaw-refusal m w o) refl (λ k. refl)
+
+  -- what is not refused is decoded
+  pub decode-alaw-done : decode-alaw-refusal m w o ≡ 0 → let t = decoded m (received w) in
+      decode-alaw m w o ≡ record { number = 0; state = t .0; octets = alaw-octets (t .1) }
+  unfolding decode-alaw answer
+  decode-alaw-done e = rw e
+
+  -- refused: the state as handed in, the octets that were there
+  pub decode-alaw-refused : (n : ℕ) → decode-alaw-refusal m w o ≡ suc n → decode-alaw m w o ≡ record { number = suc n; state = m; octets = o }
+  unfolding decode-alaw answer
+  decode-alaw-refused n e = rw e
+
+  -- number and state are those of decode, lent as many samples
+  pub decode-alaw-as : (s : List ℤ) → length o ≡ length s
+      → (decode-alaw m w o .number ≡ decode m w s .number) × (decode-alaw m w o .state ≡ decode m w s .state)
+  decode-alaw-as s l = by-number (decode-refusal m w s) refl
+    where
+      by-number : (n : ℕ) → decode-refusal m w s ≡ n
+          → (decode-alaw m w o .number ≡ decode m w s .number) × (decode-alaw m w o .state ≡ decode m w s .state)
+      by-number zero e = rw (decode-alaw-done (decode-alaw-like s l ∙ e), decode-done m w s e) (refl, refl)
+      by-number (suc n) e = rw (decode-alaw-refused n (decode-alaw-like s l ∙ e), decode-refused m w s n e) (refl, refl)
 
 module _ (c : List ℤ) (b : List ℕ) where
   -- 2, 4 and 5 exactly when the codewords are not 76, the bytes not 33, a codeword does not fit

@@ -1,5 +1,5 @@
 -- 01, 'Refusal numbers': what a number tells of the rows that it was given from.
-use mathlib.Core.Path.{_≡_, refl}
+use mathlib.Core.Path.{_≡_, refl, sym, _∙_}
 use mathlib.Core.Bool.{Bool, true, false, not}
 use mathlib.Core.List.{List, [], _∷_}
 use Prim.Native.Nat.{ℕ, zero, suc}
@@ -29,6 +29,17 @@ pub answer-number : {A : Type 0} (number : A → ℕ) (n : ℕ) {done : A} {refu
 unfolding answer
 answer-number number zero d r = d
 answer-number number (suc n) d r = r (suc n)
+
+-- where the number is 0 it is what is done
+pub answer-done : {A : Type 0} (n : ℕ) (done : A) (refused : ℕ → A) → n ≡ 0 → answer n done refused ≡ done
+unfolding answer
+answer-done n done refused e = rw e
+
+-- and else what a refusal gives, if that hangs on no number
+pub answer-else : {A : Type 0} (n : ℕ) (done refused : A) → ¬ (n ≡ 0) → answer n done (λ _. refused) ≡ refused
+unfolding answer
+answer-else zero done refused h = absurd (h refl)
+answer-else (suc n) done refused h = refl
 
 -- ---- three rows: two lengths, then a test
 
@@ -60,3 +71,15 @@ three l m i j k xs ys good =
         let s = refusal-none (not-of m ys) j last (r .1) in
         let t = refusal-none (not good) k [] (s .1) in
         (sized-length l xs (not-false _ (r .0)), sized-length m ys (not-false _ (s .0)), not-false good (t .0))
+
+-- it tells the same of another first list that is as long
+pub exactly-as : {A B C : Type 0} (n l m i j k : ℕ) (xs : List A) (zs : List C) (ys : List B) (good : Bool) → length zs ≡ length xs
+    → Exactly n l m i j k xs ys good → Exactly n l m i j k zs ys good
+exactly-as n l m i j k xs zs ys good e x =
+    record {
+      first = λ h. x .first (λ g. h (e ∙ g));
+      second = λ h. x .second (sym e ∙ h);
+      third = λ h. x .third (sym e ∙ h);
+      allows = λ h. x .allows (sym e ∙ h);
+      allowed = λ h. let (f, g, t) = x .allowed h in (e ∙ f, g, t);
+    }
