@@ -18,6 +18,7 @@ outside: ready
 	python3 outside/operations.py --compare crates/operations/stdout
 	python3 outside/operations.py --libgsm build/libgsm.so
 	python3 outside/trials.py outside/vectors --compare
+	python3 outside/compare.py --alaw
 	python3 outside/compare.py --vectors outside/vectors
 	python3 outside/compare.py --sequences
 	python3 outside/compare.py --frames 20000 --seed 961
@@ -34,4 +35,4 @@ ready:
 	outside/install python3 gcc libc6-dev cargo libspandsp2
 	mkdir -p build
 	python3 outside/libgsm.py
-	outside/proved lister encode decode calls
+	outside/proved lister encode decode encode_alaw decode_alaw expand calls

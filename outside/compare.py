@@ -1,7 +1,8 @@
 #!/usr/bin/env python3
 """Holds our programs to the second codec, to libgsm on integers and to spandsp.
 
-    python3 outside/compare.py --frames N --seed S        N made-up frames each way, and N / 5 single calls from any state
+    python3 outside/compare.py --frames N --seed S        N made-up frames each way, N / 10 in A-law, and N / 5 single calls from any state
+    python3 outside/compare.py --alaw                     all octets of A-law, all values, and the recording's listing
     python3 outside/compare.py --vectors DIR              every vector in DIR: enc/*.raw, dec/*.cod and what lies beside them
     python3 outside/compare.py --sequences                the published sequences, in the folder that RPELTP_SEQUENCES names
     python3 outside/compare.py --lister                   the lister's other runs: pieces, what cannot be read or written
@@ -21,18 +22,21 @@ import time
 import wave
 from array import array
 
+import alaw
 import given
 import libgsm
 import lister
 import peers
 import signals
 import states
-from differences import Difference, first_place, kept, same_lines, same_words
+from differences import CODEWORDS, SAMPLES, Difference, first_place, kept, same_lines, same_words
 
 ENDINGS = ['silent', 'complete'] + [f'stop{n}' for n in range(1, 9)]
 MARKS = list(states.MARK_NAMES.values())
 # what every run has to meet: stop1 is never reached
 MET = [name for name in ENDINGS + MARKS if name != 'stop1']
+# and what the single calls that encode A-law have to: in one frame from home its tones do not stop the recursion later than at 6
+ALAW_MET = [f'A-law {name}' for name in MET if name not in ('stop7', 'stop8')]
 
 
 def counts(counter, names):
@@ -50,7 +54,7 @@ def encoded(run, seed):
     if turned is not None:
         # what spandsp carries is another state from here on
         answers['spandsp'] = answers['spandsp'][:152 * turned] + coded[152 * turned:]
-    same_words(run, seed, 76, answers)
+    same_words(run, seed, CODEWORDS, answers)
     listings = {'the second codec': peers.second('list', samples), 'ours': peers.ours('lister', samples)}
     same_lines(f'{run.name}, seed {seed}', samples, listings)
     met = collections.Counter({word: listings['ours'].count(f'\t{word}\t'.encode()) for word in ENDINGS + MARKS})
@@ -72,7 +76,7 @@ def turned_over(samples, theirs, others):
 def decoded(run, seed):
     """All parties on the codewords of a run; how many lags outside 40 to 120 they held."""
     codewords = run.words.tobytes()
-    same_words(run, seed, 160, {party: decode(codewords) for party, decode in peers.DECODERS.items()})
+    same_words(run, seed, SAMPLES, {party: decode(codewords) for party, decode in peers.DECODERS.items()})
     valid = peers.valid_bits(codewords)
     return sum(not 40 <= lag <= 120 for start in signals.STARTS for lag in valid[start::76])
 
@@ -99,7 +103,8 @@ def from_home(seed, frames, kinds=None, recordings=()):
 
 # ---- from any state
 
-PLACES = ((0, 'head'), (states.STATE, 'state'), (states.SAMPLES, 'samples'), (states.CODEWORDS, 'codewords'), (states.BYTES, 'bytes'))
+PLACES = ((0, 'head'), (states.HOUSE, 'house values'), (states.STATE, 'state'), (states.SAMPLES, 'samples'), (states.RESIDUAL, 'residual'),
+          (states.CODEWORDS, 'codewords'), (states.BYTES, 'bytes'), (states.UNUSED, 'unused words'))
 
 
 def differs(seed, number, named, place, values):
@@ -109,20 +114,63 @@ def differs(seed, number, named, place, values):
     raise Difference(f'calls, seed {seed}: call {number} ({name}), word {place}, in the {part} at {place - start}: {said}\nthe record is {file}')
 
 
+def libgsm_encodes(peer, record):
+    """The codewords of the samples, or of the octets as spandsp expands them."""
+    samples = record[states.SAMPLES:states.SAMPLES + 160]
+    if record[0] == states.ENCODE_ALAW:
+        return array('H', peer.encode(peers.spandsp_expand(bytes(x & 255 for x in samples))))
+    return array('H', peer.encode(samples.tobytes()))
+
+
+def libgsm_decodes(peer, record):
+    """The samples, or the octets that spandsp compresses them to."""
+    samples = peer.decode(record[states.CODEWORDS:states.CODEWORDS + 76].tobytes())
+    return list(peers.spandsp_compress(samples)) if record[0] == states.DECODE_ALAW else array('H', samples)
+
+
 def libgsm_call(peer, record):
     """What libgsm makes of a record that is not refused: the places it answers for, and the words there."""
-    call, words = record[0], array('h', record.tobytes())
+    call, words = states.linear(record[0]), array('h', record.tobytes())
     peer.place(call, words[states.STATE:states.SAMPLES])
-    if call == states.ENCODE:
-        place, answer = states.CODEWORDS, peer.encode(words[states.SAMPLES:states.SAMPLES + 160].tobytes())
-    else:
-        place, answer = states.SAMPLES, peer.decode(words[states.CODEWORDS:states.CODEWORDS + 76].tobytes())
+    place, answer = (states.CODEWORDS, libgsm_encodes(peer, record)) if call == states.ENCODE else (states.SAMPLES, libgsm_decodes(peer, record))
     yield from enumerate((x & 65535 for x in peer.carried(call)), states.STATE)
-    yield from enumerate(array('H', answer), place)
+    yield from enumerate(answer, place)
+
+
+def number_given(record, answer):
+    return f'{states.CALLS.get(record[0], states.NO_CALL)} {answer[0]}'
+
+
+def within_the_rules(seed, number, named, answer):
+    """Nothing, if a call answers with a number that it has, and alters no word that is not its own to write."""
+    if number_given(named[1], answer) not in states.DONE + states.REFUSALS:
+        differs(seed, number, named, 0, {'both': answer[0]})
+    expected = states.with_its_own(named[1], answer)
+    if answer != expected:
+        place = first_place(expected, answer)
+        differs(seed, number, named, place, {'the rule': expected[place], 'both': answer[place]})
+
+
+def as_libgsm(seed, number, named, answer, peer):
+    """Nothing, if libgsm makes of a record what the others answer."""
+    for place, value in libgsm_call(peer, named[1]):
+        if value != answer[place]:
+            differs(seed, number, named, place, {'the others': answer[place], 'libgsm': value})
+
+
+def met_by(name, record, answer):
+    """What a call that encodes or decodes met, not being refused: clips, the ending, the marks."""
+    if states.linear(record[0]) == states.ENCODE:
+        shown = [states.ENDING_NAMES[answer[1]]] + [states.MARK_NAMES[mark] for mark in answer[2:6]]
+        yield from shown if record[0] == states.ENCODE else [f'A-law {each}' for each in shown]
+    if record[0] not in states.LINEAR:
+        clips = states.clips_met(record, answer)
+        yield from clips
+        yield from (states.ON_PURPOSE + clip for clip in clips if name.startswith(states.ON_PURPOSE))
 
 
 def calls(seed, count):
-    """Single calls: ours and the second codec on all, libgsm on those that encode or decode. What of them was met."""
+    """Single calls: ours and the second codec on all, libgsm on those that encode or decode. How many, and what of them was met."""
     made, met = states.records(seed, count), collections.Counter()
     asked = b''.join(record.tobytes() for _, record in made)
     answers = {'the second codec': peers.second('calls', asked), 'ours': peers.ours('calls', asked)}
@@ -137,17 +185,12 @@ def calls(seed, count):
     peer = peers.Libgsm()
     for number, (name, record) in enumerate(made):
         answer = first[number * states.WORDS:(number + 1) * states.WORDS]
-        met[f'{states.CALLS[record[0]]} {answer[0]}'] += 1
-        if answer[0] == 0 and record[0] in (states.ENCODE, states.DECODE):
-            clips = states.clips_met(record, answer)
-            met.update(clips)
-            met.update(states.ON_PURPOSE + clip for clip in clips if name.startswith(states.ON_PURPOSE))
+        within_the_rules(seed, number, (name, record), answer)
+        met[number_given(record, answer)] += 1
+        if answer[0] == 0 and states.linear(record[0]) in (states.ENCODE, states.DECODE):
+            as_libgsm(seed, number, (name, record), answer, peer)
             met['libgsm'] += 1
-            for place, value in libgsm_call(peer, record):
-                if value != answer[place]:
-                    differs(seed, number, (name, record), place, {'the others': answer[place], 'libgsm': value})
-        if answer[0] == 0 and record[0] == states.ENCODE:
-            met.update([states.ENDING_NAMES[answer[1]]] + [states.MARK_NAMES[mark] for mark in answer[2:6]])
+            met.update(met_by(name, record, answer))
     return len(made), met
 
 
@@ -155,8 +198,8 @@ def from_states(seed, count):
     total, met = calls(seed, count)
     print(f'calls: {total} records; refusal numbers met: {counts(met, states.DONE + states.REFUSALS)}; '
           f'libgsm from the same states: {met["libgsm"]}')
-    print(f'calls: {counts(met, ENDINGS)}; {counts(met, MARKS)}; {counts(met, states.CLIPS)}')
-    wanted = [states.ON_PURPOSE + clip for clip in states.CLIPS] + states.DONE + states.REFUSALS + MET
+    print(f'calls: {counts(met, ENDINGS)}; {counts(met, MARKS)}; {counts(met, states.CLIPS)}; {counts(met, ALAW_MET)}')
+    wanted = [states.ON_PURPOSE + clip for clip in states.CLIPS] + states.DONE + states.REFUSALS + MET + ALAW_MET
     missing = [name for name in wanted if not met[name]]
     if missing:
         raise Difference(f'no call met: {", ".join(missing)}')
@@ -175,7 +218,7 @@ def built():
 
 def comparison(seed, frames):
     began = time.monotonic()
-    total = from_home(seed, frames) + from_states(seed, frames // 5)
+    total = from_home(seed, frames) + alaw.from_home(seed, frames // 10) + from_states(seed, frames // 5)
     print(f'seed {seed}: {total} frames and calls, no difference ({time.monotonic() - began:.0f} s)')
 
 
@@ -213,6 +256,7 @@ def soak(seconds, seed):
         # the sounds that do not hang on the seed go through once
         kinds = None if number == 1 else signals.CHANGING
         total += from_home(seed, 20000, kinds, recordings(paths, random.Random(seed))) + from_states(seed, 4000)
+        total += alaw.from_home(seed, 2000, number == 1)
         total += sum(back_to_back(run, seed) for run in signals.sounds(seed, 20000, kinds))
         passed = time.monotonic() - began
         print(f'after round {number}: {total} frames and calls in {passed:.0f} s, {total / passed:.0f} a second, no difference', flush=True)
@@ -225,6 +269,7 @@ def arguments_given():
     parser = argparse.ArgumentParser(description=__doc__, formatter_class=argparse.RawDescriptionHelpFormatter)
     choice = parser.add_mutually_exclusive_group(required=True)
     choice.add_argument('--frames', type=int, metavar='N')
+    choice.add_argument('--alaw', action='store_true')
     choice.add_argument('--vectors', metavar='DIR')
     choice.add_argument('--sequences', action='store_true')
     choice.add_argument('--lister', action='store_true')
@@ -238,7 +283,9 @@ def main():
     arguments = arguments_given()
     try:
         built()
-        if arguments.vectors:
+        if arguments.alaw:
+            alaw.rules()
+        elif arguments.vectors:
             given.vectors(arguments.vectors)
         elif arguments.sequences:
             given.sequences(os.environ.get('RPELTP_SEQUENCES'))

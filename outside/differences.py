@@ -6,6 +6,8 @@ from peers import BUILD
 from signals import STARTS
 
 SUBFRAME = ['lag', 'gain', 'grid', 'amplitude'] + [f'pulse {i}' for i in range(1, 14)]
+# what a party answers for a frame: how many, and as which type of an array
+CODEWORDS, SAMPLES, OCTETS = (76, 'H'), (160, 'h'), (160, 'B')
 
 
 class Difference(Exception):
@@ -43,17 +45,24 @@ def codeword_name(place):
     return f'{SUBFRAME[(place - 8) % 17]} of sub-frame {(place - 8) // 17 + 1}'
 
 
-def place_name(size, place):
-    return codeword_name(place) if size == 76 else f'sample {place}'
+def place_name(kind, place):
+    return codeword_name(place) if kind == CODEWORDS else f'{"sample" if kind == SAMPLES else "octet"} {place}'
 
 
-def same_words(run, seed, size, answers):
-    """Nothing, if the parties' answers to a run are the same words, size of them for each frame."""
+def kept_run(run, frames):
+    """Leaves so many frames of a run in build/ and says the file's name there."""
+    ending = 'al' if run.words.typecode == 'B' else 'raw'
+    return kept(f'differs-{run.size}.{ending}', run.words[:run.size * frames].tobytes())
+
+
+def same_words(run, seed, kind, answers):
+    """Nothing, if the parties' answers to a run are the same words, of one of the three kinds."""
+    size, word = kind
     for party, answer in answers.items():
-        if len(answer) != 2 * size * run.frames():
-            file = kept(f'differs-{run.size}.raw', run.words.tobytes())
+        if len(answer) != array(word).itemsize * size * run.frames():
+            file = kept_run(run, run.frames())
             raise Difference(f'{run.name}, seed {seed}: {party} gives {len(answer)} bytes for {run.frames()} frames\nthe input is {file}')
-    rows = {party: array('H' if size == 76 else 'h', answer) for party, answer in answers.items()}
+    rows = {party: array(word, answer) for party, answer in answers.items()}
     first, *others = rows
     for party in others:
         if answers[party] == answers[first]:
@@ -61,9 +70,19 @@ def same_words(run, seed, size, answers):
         place = first_place(rows[first], rows[party])
         frame = place // size
         values = ', '.join(f'{at(row, place)} by {name}' for name, row in rows.items())
-        file = kept(f'differs-{run.size}.raw', run.words[:run.size * (frame + 1)].tobytes())
+        file = kept_run(run, frame + 1)
         raise Difference(f'{run.name}, seed {seed}: {party} differs from {first} at frame {frame} ({run.part(frame)}), place {place % size} '
-                         f'({place_name(size, place % size)}): {values}\nthe input to the end of that frame is {file}')
+                         f'({place_name(kind, place % size)}): {values}\nthe input to the end of that frame is {file}')
+
+
+def same_values(name, start, answers):
+    """Nothing, if the parties have the same row of numbers, the first of them for start, the next for the number after it."""
+    wanted = next(iter(answers.values()))
+    for row in answers.values():
+        if row != wanted:
+            place = first_place(wanted, row)
+            values = ', '.join(f'{at(each, place)} by {party}' for party, each in answers.items())
+            raise Difference(f'{name} {start + place}: {values}')
 
 
 def same_lines(name, given, answers):

@@ -46,7 +46,7 @@ def packed_by_calls(path):
         for call, given in ((states.PACK, {'codewords': codewords}), (states.UNPACK, {'packed': packed})):
             record = states.record(dice, call, **given)
             asked.append(record.tobytes())
-            record[0:8] = array('H', [0] * 8)
+            record[:states.HOUSE] = array('H', [0] * states.HOUSE)
             record[states.CODEWORDS:states.CODEWORDS + 76] = array('H', codewords)
             record[states.BYTES:states.BYTES + 33] = array('H', packed)
             expected.append(record.tobytes())

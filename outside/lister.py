@@ -1,10 +1,11 @@
 """The programs' other runs: what the lister does with lengths, pieces, an input that cannot be read, an output that cannot be written, the limit; what
-encode and decode do with bytes left over.
+encode and decode do with bytes left over, in 16 bits and in A-law; what outside/program says of them all.
 
 They cannot set an exit status. What they can do is say it on standard error, and end."""
 import os
 import platform
 import random
+import re
 import subprocess
 import threading
 import time
@@ -12,7 +13,7 @@ from array import array
 
 import signals
 from differences import Difference, at, first_place, kept, same_lines
-from peers import BUILD, PROGRAM, ours, second
+from peers import BUILD, HERE, PROGRAM, ours, second
 
 # a lister that waits for ever is ended after so many seconds; an emulator takes some to start, and many for the limit
 PATIENCE, LONG = 30, 3600
@@ -128,14 +129,46 @@ def unwritable():
     os.remove(path)
 
 
+# of each program that takes frames, how many bytes of one go in and come out
+FRAME_BYTES = {'encode': (320, 152), 'decode': (152, 320), 'encode_alaw': (160, 152), 'decode_alaw': (152, 160)}
+
+
 def left_over():
-    """encode and decode, handed a frame and some bytes: the frame is coded, and the bytes are counted on standard error."""
-    for name, size, answer in (('encode', 320, 152), ('decode', 152, 320)):
+    """Handed a frame and some bytes: the frame is coded, and the bytes are counted on standard error. expand takes all."""
+    for name, (size, answer) in FRAME_BYTES.items():
         for more in (0, 1, size - 1):
             _, written, said = ended(f'{more} bytes left over', [PROGRAM, name], input=bytes(size + more), stdout=subprocess.PIPE)
-            if len(written) != answer or said.startswith(b'%d bytes' % more) != (more > 0) or bool(said) != (more > 0):
+            if len(written) != answer or said != (b'%d bytes are left over, less than a frame: not coded\n' % more if more else b''):
                 raise Difference(f'{name} with {more} bytes left over writes {len(written)} bytes and says {said!r}')
-    print('encode, decode: bytes left over after the last frame are not coded, and are counted on standard error')
+    print(f'{", ".join(FRAME_BYTES)}: bytes left over after the last frame are not coded, and are counted on standard error')
+    for size in (0, 1, 159, 161):
+        _, written, said = ended(f'{size} octets', [PROGRAM, 'expand'], input=bytes(size), stdout=subprocess.PIPE)
+        if len(written) != 2 * size or said:
+            raise Difference(f'expand with {size} octets writes {len(written)} bytes and says {said!r}')
+    print('expand: 0, 1, 159 and 161 octets: a sample for each')
+
+
+def programs():
+    """The programs in crates.txt: what stands under the headings that begin so."""
+    with open(os.path.join(HERE, '..', 'crates.txt'), encoding='utf-8') as file:
+        parts = re.split(r'^# ', file.read(), flags=re.M)
+    return [name for part in parts if part.startswith('programs') for name in re.findall(r'^(\w+):', part, re.M)]
+
+
+def explained():
+    """outside/program says which programs there are: to whom asks for it with status 0, and as a fault to whom names none of them."""
+    helped = [ended(word, [PROGRAM, word], stdout=subprocess.PIPE) for word in ('-h', '--help')]
+    faults = [ended('no program', [PROGRAM, *words], stdout=subprocess.PIPE) for words in ([], ['no_program'], ['lister', 'encode'])]
+    text = helped[0][1]
+    named = [name for names in re.findall(r'^    ([a-z_]+(?:, [a-z_]+)*)  ', text.decode(), re.M) for name in names.split(', ')]
+    if sorted(named) != sorted(programs()) or not named:
+        raise Difference(f'outside/program -h names {", ".join(named)}; the programs of crates.txt are {", ".join(programs())}')
+    if helped[0] != (0, text, b'') or helped[1] != helped[0]:
+        raise Difference(f'outside/program -h and --help: {helped}')
+    for status, written, said in faults:
+        if status != 2 or written or not said.endswith(text):
+            raise Difference(f'outside/program with no program: status {status}, it writes {written!r} and says {said!r}')
+    print(f'outside/program: -h says what each reads and writes: {", ".join(named)}')
 
 
 def told(name, status, said):
@@ -154,6 +187,7 @@ def other_runs():
     unreadable()
     unwritable()
     left_over()
+    explained()
     if emulated():
         print('NOT RUN: the limit of 1,000,000 frames, which takes minutes where the programs are emulated: make soak runs it')
     else:

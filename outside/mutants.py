@@ -3,8 +3,8 @@
 
     python3 outside/mutants.py [NAME..]       every mutant of mutants.txt, or those named
 
-Each is built and put through the inputs of `compare.py --frames 20000` and of the lister's runs, the quickest first, until it gives
-something else than the second codec as it is. Status 1: one that is not told from it, or a change that does not apply."""
+Each is built and put through the inputs of `compare.py --frames 20000`, of `compare.py --alaw` and of the lister's runs, the quickest first,
+until it gives something else than the second codec as it is. Status 1: one that is not told from it, or a change that does not apply."""
 import concurrent.futures
 import os
 import re
@@ -12,7 +12,9 @@ import shutil
 import subprocess
 import sys
 import time
+from array import array
 
+import alaw
 import lister
 import peers
 import signals
@@ -24,7 +26,10 @@ LIST = os.path.join(peers.HERE, 'mutants.txt')
 SEED, FRAMES = 961, 20000
 PATIENCE = 30
 # bytes that each mode takes in about the same time
-COST = {'list': 320, 'encode': 320, 'decode': 304, 'calls': 880}
+COST = {'list': 320, 'encode': 320, 'decode': 304, 'calls': 1536, 'expand': 8000, 'compress': 16000, 'compress-samples': 16000, 'encode-alaw': 160,
+        'decode-alaw': 304}
+# they go through the codec that the modes of 16 bits go through, whose inputs have to tell by themselves what is wrong there: these come after
+LAST = ('encode-alaw', 'decode-alaw')
 # quick to build and yet quick enough to run; a mutant that overflows must end, as it would in the second codec
 FLAGS = ['--edition', '2021', '-A', 'warnings', '-C', 'opt-level=1', '-C', 'codegen-units=1', '-C', 'overflow-checks=on', '-C', 'debuginfo=0']
 
@@ -51,12 +56,24 @@ def inputs():
     for name, given in lister.inputs():
         yield 'list', name, given
     yield 'encode', 'speech', lister.speech()
+    yield from alaw_inputs()
+
+
+def alaw_inputs():
+    """Those of compare.py --alaw, and octets and frames from home."""
+    yield 'expand', 'all octets', bytes(range(256))
+    yield 'compress', 'all values of 13 bits', array('h', range(-4096, 4096)).tobytes()
+    yield 'compress-samples', 'all samples', array('h', range(-32768, 32768)).tobytes()
+    for run in alaw.octet_runs(SEED, FRAMES // 10):
+        yield 'encode-alaw', run.name, run.words.tobytes()
+    for run in signals.coded(SEED, FRAMES // 10):
+        yield 'decode-alaw', run.name, run.words.tobytes()
 
 
 def saved():
     """The inputs as files, quickest first, each with what the second codec gives."""
     ready = []
-    for number, (mode, name, given) in enumerate(sorted(inputs(), key=lambda each: len(each[2]) / COST[each[0]])):
+    for number, (mode, name, given) in enumerate(sorted(inputs(), key=lambda each: (each[0] in LAST, len(each[2]) / COST[each[0]]))):
         path = os.path.join(FOLDER, f'{number}.raw')
         with open(path, 'wb') as file:
             file.write(given)

@@ -1,31 +1,46 @@
 """The states that a codec carries, and single calls from any of them, as records for the programs `calls`: made up by rule and by seeded
 chance.
 
-A record has 440 words: 0 the call (1 encode, 2 decode, 3 pack, 4 unpack), 1 to 3 how many samples, codewords and bytes are lent, 8 to 147
-the state, 148 to 315 room for samples, 316 to 399 for codewords, 400 to 439 for bytes. An answer has the same layout, with the refusal
-number at 0, the ending at 1 and the marks from 2 on."""
+A record has 768 words: the head, with the call at 0 and at 1 to 3 how many samples or octets, codewords and bytes are lent; 16 words for
+house values; 240 for the state; room for 168 samples, or for as many octets, each in the low half of its word; for 168 residual samples, 84
+codewords and 40 bytes; 4 words of nothing. An answer has the same layout, with the refusal number at 0, the ending at 1, the marks from 2 on
+and 0 in what is left of the head."""
 import itertools
 import random
 from array import array
 from dataclasses import dataclass, field
 
 from operations import mult_r, saturate
-from signals import ENDS, VALID, WIDTHS, noise, random_frames, random_words, swell
+from peers import spandsp_compress
+from signals import ENDS, IDLE, VALID, WIDTHS, noise, of_segments, random_frames, random_words, swell
 
-ENCODE, DECODE, PACK, UNPACK = 1, 2, 3, 4
-CALLS = {ENCODE: 'encode', DECODE: 'decode', PACK: 'pack', UNPACK: 'unpack'}
-WORDS, STATE, SAMPLES, CODEWORDS, BYTES = 440, 8, 148, 316, 400
+ENCODE, DECODE, PACK, UNPACK, ENCODE_ALAW, DECODE_ALAW = 1, 2, 3, 4, 5, 6
+CALLS = {ENCODE: 'encode', DECODE: 'decode', PACK: 'pack', UNPACK: 'unpack', ENCODE_ALAW: 'encode_alaw', DECODE_ALAW: 'decode_alaw'}
+# numbers that are no call's, the last two with a call's in the low byte; what such a one is called
+OTHERS, NO_CALL = (0, 7, 99, -1, 256 + ENCODE, 256 + DECODE_ALAW), 'no call'
+# the calls of A-law, and of each the call that it is once the octets are samples
+LINEAR = {ENCODE_ALAW: ENCODE, DECODE_ALAW: DECODE}
+# where the parts of a record begin, and how many words it has
+HOUSE, STATE, SAMPLES, RESIDUAL, CODEWORDS, BYTES, UNUSED, WORDS = 48, 64, 304, 472, 640, 724, 764, 768
 ROOMS, LENT, MOST = {1: 'samples', 2: 'codewords', 3: 'bytes'}, {1: 160, 2: 76, 3: 33}, {1: 168, 2: 84, 3: 40}
 # which of the three each call is lent
-TAKES = {ENCODE: (1, 2), DECODE: (1, 2), PACK: (2, 3), UNPACK: (2, 3)}
+TAKES = {ENCODE: (1, 2), DECODE: (1, 2), PACK: (2, 3), UNPACK: (2, 3), ENCODE_ALAW: (1, 2), DECODE_ALAW: (1, 2)}
+# what each call writes where it is not refused: from which word on, and how many; encode says its ending and marks in the head
+WRITES = {ENCODE: ((1, 5), (STATE, 140), (CODEWORDS, 76)), DECODE: ((STATE, 138), (SAMPLES, 160)), PACK: ((BYTES, 33),), UNPACK: ((CODEWORDS, 76),)}
 # 01's bounds of a sound state: of z1, of L_z2 - 32768 z1, and of the remembered lag
 Z1, EXCESS, LAG = (-16384, 16380), (-536740337, 536871409), (40, 120)
 # what home does not reach; each number by each call that gives it; the endings and the marks as an answer has them
 CLIPS, ON_PURPOSE = ['pre-emphasis clipped', 'abs(-32768) in 4.2.4', '26112 clipped'], 'on purpose: '
-DONE = ['encode 0', 'decode 0', 'pack 0', 'unpack 0']
-REFUSALS = ['encode 1', 'encode 2', 'encode 3', 'decode 1', 'decode 2', 'decode 3', 'pack 2', 'pack 4', 'pack 5', 'unpack 2', 'unpack 4', 'unpack 6']
+DONE = [f'{name} 0' for name in CALLS.values()]
+REFUSALS = ['encode 1', 'encode 2', 'encode 3', 'decode 1', 'decode 2', 'decode 3', 'pack 2', 'pack 4', 'pack 5', 'unpack 2', 'unpack 4', 'unpack 6',
+            'encode_alaw 1', 'encode_alaw 2', 'encode_alaw 3', 'decode_alaw 1', 'decode_alaw 2', 'decode_alaw 3', f'{NO_CALL} 255']
 ENDING_NAMES = {1: 'silent', 2: 'complete', **{16 + n: f'stop{n}' for n in range(1, 9)}}
 MARK_NAMES = {1: 'rule', 2: 'found'}
+
+
+def linear(call):
+    """The call that an A-law call is once its octets are samples; any other is itself."""
+    return LINEAR.get(call, call)
 
 
 # ---- states
@@ -71,24 +86,28 @@ def random_decoder(dice):
     return Decoder(words(dice, 120), dice.randint(*LAG), words(dice, 8), words(dice, 8), *words(dice, 1))
 
 
+def any_state(dice, call):
+    return random_coder(dice) if linear(call) == ENCODE else random_decoder(dice)
+
+
 def quiet(dice, call, level):
     """A sound state with small values, such as a run from home may have."""
     small = list(noise(dice, 137, level))
-    if call == ENCODE:
+    if linear(call) == ENCODE:
         return Coder(small[0] // 2, 32768 * (small[0] // 2) + 100 * small[1], small[0], small[1:9], small[9:17], small[17:])
     return Decoder(small[17:], dice.randint(*LAG), small[1:9], small[9:17], small[0])
 
 
 def as_words(state):
-    """A state as the 140 words of a record."""
+    """A state as the first 140 of a record's words for it."""
     if isinstance(state, Coder):
         return [state.z1, state.L_z2, state.L_z2 >> 16, state.mp, *state.LARpp, *state.u, *state.dp]
     return [state.nrp, state.msr, *state.LARpp, *state.v, *state.dp, 4711, -4711]
 
 
 def from_words(call, carried):
-    """The state that the 140 words of a record for that call are."""
-    if call == ENCODE:
+    """The state that the words of a record for that call are."""
+    if linear(call) == ENCODE:
         return Coder(carried[0], carried[2] * 65536 + (carried[1] & 65535), carried[3], carried[4:12], carried[12:20], carried[20:140])
     return Decoder(carried[18:138], carried[0], carried[2:10], carried[10:18], carried[1])
 
@@ -100,12 +119,16 @@ def record(dice, call, state=None, samples=None, codewords=None, packed=None, le
     lent = {**LENT, **(lent or {})}
     filled = list(random_words(dice, WORDS))
     filled[0], filled[1:4] = call, [lent[1], lent[2], lent[3]]
-    filled[STATE:SAMPLES] = as_words(state or (random_coder(dice) if call == ENCODE else random_decoder(dice)))
+    filled[STATE:STATE + 140] = as_words(state or any_state(dice, call))
     if samples is not None:
         filled[SAMPLES:SAMPLES + len(samples)] = samples
+    if call in LINEAR:
+        # an octet is the low half of its word: the high halves are 0 in one record and any in another
+        high = dice.choice((0, 0xFF00))
+        filled[SAMPLES:RESIDUAL] = [x & 255 | y & high for x, y in zip(filled[SAMPLES:RESIDUAL], random_words(dice, 168))]
     coded = random_frames(dice, 2)[:84] if codewords is None else codewords
     filled[CODEWORDS:CODEWORDS + len(coded)] = coded
-    filled[BYTES:] = [x & 255 for x in filled[BYTES:]]
+    filled[BYTES:UNUSED] = [x & 255 for x in filled[BYTES:UNUSED]]
     if packed is None:
         filled[BYTES + 32] &= 15
     else:
@@ -133,25 +156,29 @@ def around(bounds):
     return low - 1, low, high, high + 1
 
 
-def edges_of_soundness(dice):
+def coders_at_the_edges(dice):
+    """States with z1 and L_z2 about their bounds, sound or not."""
     for z1 in (-32768, *around(Z1), 32767):
-        for excess in (*around(EXCESS), 0):
-            state = random_coder(dice)
-            state.z1, state.L_z2 = z1, saturate(32768 * z1 + excess, 32)
-            yield f'z1 {z1}, L_z2 {state.L_z2}', record(dice, ENCODE, state)
-        for L_z2 in (-2147483648, 2147483647, 0):
+        for L_z2 in [saturate(32768 * z1 + excess, 32) for excess in (*around(EXCESS), 0)] + [-2147483648, 2147483647, 0]:
             state = random_coder(dice)
             state.z1, state.L_z2 = z1, L_z2
-            yield f'z1 {z1}, L_z2 {L_z2}', record(dice, ENCODE, state)
-    for lag in (-32768, -1, 0, *around(LAG), 127, 168, 32767):
-        state = random_decoder(dice)
-        state.nrp = lag
-        yield f'a remembered lag of {lag}', record(dice, DECODE, state)
+            yield state
+
+
+def edges_of_soundness(dice):
+    for call in (ENCODE, ENCODE_ALAW):
+        for state in coders_at_the_edges(dice):
+            yield f'{CALLS[call]}, z1 {state.z1}, L_z2 {state.L_z2}', record(dice, call, state)
+    for call in (DECODE, DECODE_ALAW):
+        for lag in (-32768, -1, 0, *around(LAG), 127, 168, 32767):
+            state = random_decoder(dice)
+            state.nrp = lag
+            yield f'{CALLS[call]}, a remembered lag of {lag}', record(dice, call, state)
 
 
 def unsound(dice, call):
-    state = random_coder(dice) if call == ENCODE else random_decoder(dice)
-    if call == ENCODE:
+    state = any_state(dice, call)
+    if linear(call) == ENCODE:
         state.z1 = dice.choice((-16385, 16381))
     else:
         state.nrp = dice.choice((39, 121))
@@ -175,6 +202,13 @@ def wrong_lengths(dice):
         yield f'{CALLS[call]}, all but the lengths refused', all_refused(dice, call, {})
 
 
+def no_calls(dice):
+    """Numbers that are no call's, which come before anything else that could be refused."""
+    for call in OTHERS:
+        yield f'call {call}', record(dice, call)
+        yield f'call {call}, all else refused too', all_refused(dice, call, {what: LENT[what] - 1 for what in LENT})
+
+
 def wide_and_spare(dice):
     for place, width in enumerate(WIDTHS):
         for value in {1 << width, 32768, -1, VALID[place]}:
@@ -191,6 +225,10 @@ def homes(dice):
     yield 'home, silence', record(dice, ENCODE, Coder(), [0] * 160)
     yield 'home, any words', record(dice, ENCODE, Coder())
     yield 'home, any frame', record(dice, DECODE, Decoder())
+    yield 'home, the idle line', record(dice, ENCODE_ALAW, Coder(), [IDLE] * 160)
+    yield 'the idle line as silence', record(dice, ENCODE_ALAW, Coder(z1=4), [IDLE] * 160)
+    yield 'home, any octets', record(dice, ENCODE_ALAW, Coder())
+    yield 'home, any frame to octets', record(dice, DECODE_ALAW, Decoder())
     # from here scale 4 turns a sample over
     yield 'a sample turned over', record(dice, ENCODE, Coder(z1=-16384, L_z2=397), [32767] + [0] * 159)
 
@@ -199,20 +237,28 @@ def stopping(dice):
     """Swelling tones, from home: the recursion stops in most."""
     for period in (2, 2.105, 2.667, 4, 4.2, 8, 80, 160, 320):
         for level, length, power in itertools.product((8000, 20000, 32767), (80, 160), (2, 4)):
-            tone = swell(160, period, level, length, power)
-            yield f'home, a swelling tone of period {period}, {level}, {length}, {power}', record(dice, ENCODE, Coder(), tone)
+            tone, name = swell(160, period, level, length, power), f'home, a swelling tone of period {period}, {level}, {length}, {power}'
+            yield name, record(dice, ENCODE, Coder(), tone)
+            yield f'{name}, as A-law', record(dice, ENCODE_ALAW, Coder(), spandsp_compress(array('h', tone).tobytes()))
 
 
-FIXED = (met_on_purpose, edges_of_soundness, wrong_lengths, wide_and_spare, homes, stopping)
+FIXED = (met_on_purpose, edges_of_soundness, wrong_lengths, no_calls, wide_and_spare, homes, stopping)
+
+
+def samples_by_chance(dice, call, level):
+    """Noise, or octets of up to some segment, and in some any words."""
+    if dice.random() < 0.3:
+        return words(dice, 160)
+    return of_segments(dice, 160, range(dice.randint(1, 8))) if call == ENCODE_ALAW else noise(dice, 160, level)
 
 
 def by_chance(dice):
     """One call, mostly from a sound state and not refused."""
-    call = dice.choices(list(CALLS), (10, 8, 1, 1))[0]
+    call = dice.choices(list(CALLS), (10, 8, 1, 1, 5, 4))[0]
     level = 2 ** dice.randint(0, 15) - 1
-    samples = noise(dice, 160, level) if dice.random() < 0.7 else words(dice, 160)
+    samples = samples_by_chance(dice, call, level)
     state = quiet(dice, call, level) if dice.random() < 0.4 else None
-    coded = words(dice, 84) if call == DECODE and dice.random() < 0.3 else None
+    coded = words(dice, 84) if linear(call) == DECODE and dice.random() < 0.3 else None
     return f'{CALLS[call]} by chance', record(dice, call, state, samples, coded)
 
 
@@ -226,6 +272,17 @@ def records(seed, count):
 
 
 # ---- what an answer shows
+
+def with_its_own(given, answer):
+    """A record as it was asked, with the words that its call may write taken from the answer, which may be no other than this."""
+    call, expected = given[0], array('H', given)
+    expected[:HOUSE] = array('H', [answer[0]] + [0] * (HOUSE - 1))
+    if call == DECODE_ALAW:
+        expected[SAMPLES:RESIDUAL] = array('H', [x & 255 for x in given[SAMPLES:RESIDUAL]])
+    for start, count in WRITES.get(linear(call), ()) if answer[0] == 0 else ():
+        expected[start:start + count] = answer[start:start + count]
+    return expected
+
 
 def signed(values):
     return [x - 65536 if x > 32767 else x for x in values]

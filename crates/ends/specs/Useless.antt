@@ -2,7 +2,7 @@
 use Prim.Native.Nat.{ℕ}
 use native.Mathlib.Omega.{arith}
 use mathlib.Core.Path.{_≡_, refl, sym, ap, subst, _∙_}
-use mathlib.Core.Bool.{true}
+use mathlib.Core.Bool.{Bool, true}
 use mathlib.Core.Option.{Option, none, some}
 use mathlib.Core.List.{List}
 use lib.IntN.{ℤ, pos, natAbs}
@@ -14,6 +14,7 @@ use Rattle.standard.specs.House.{home-coder, home-decoder, sound-coder, sound-d
 use Rattle.standard.specs.Answers as answers
 use Rattle.standard.specs.Opened.{opened}
 use Rattle.standard.specs.ZeroFrame.{zero-frame}
+use Rattle.refusals.specs.Rows.{Exactly}
 use Rattle.refusals.specs.Calls.{encode-exactly, decode-exactly}
 use Rattle.encoder.specs.declared.Encoder.{Encoder}
 use Rattle.encoder.specs.declared.Ending.the-variants as Ending-of
@@ -25,7 +26,7 @@ use Rattle.decoder.specs.declared.Decoded.{Decoded}
 use Rattle.decoder.specs.Promise.{memory, Decodes, DecodesAlaw}
 use Rattle.decoder.specs.Calls as decoder
 use Rattle.ends.specs.Example.{zeros, idle, pulses, first-frame, second-frame}
-use Rattle.ends.specs.Demands.{encode-alaw-refuses, decode-alaw-refuses}
+use Rattle.ends.specs.Demands.{encode-refuses, encode-alaw-refuses, decode-refuses, decode-alaw-refuses}
 
 -- two numbers that are not the same
 unlike : (m n : ℕ) → ¬ (m ≡ n) → ¬ (pos m ≡ pos n)
@@ -58,6 +59,28 @@ refuses-octets e octets lent a left l k s n p = n (encode-alaw-refuses e octets 
 pub refuses-heard : (d : Decoder) (codewords : List ℤ) (lent : List ℕ) (a : Decoded) (left : List ℕ)
     → length lent ≡ 160 → length codewords ≡ 76 → sound-decoder (memory d) ≡ true → ¬ (a .number ≡ 0) → ¬ DecodesAlaw d codewords lent a left
 refuses-heard d codewords lent a left l k s n p = n (decode-alaw-refuses d codewords lent a left p .allows l k s)
+
+-- ---- the codewords counted before the samples or the octets: 2, where the first length is wrong
+
+second-first : {A B : Type 0} (n : ℕ) (xs : List A) (ys : List B) (good : Bool) → Exactly n 160 76 1 2 3 xs ys good → ¬ (length xs ≡ 160) → ¬ (n ≡ 2)
+second-first n xs ys good x h e = let first = x .first h in absurd (omega arith)
+
+pub codewords-first : (e : Encoder) (samples lent : List ℤ) (a : Encoded) (left : List ℤ)
+    → ¬ (length samples ≡ 160) → a .number ≡ 2 → ¬ Encodes e samples lent a left
+codewords-first e samples lent a left h n p = second-first (a .number) samples lent _ (encode-refuses e samples lent a left p) h n
+
+pub codewords-first-octets : (e : Encoder) (octets : List ℕ) (lent : List ℤ) (a : Encoded) (left : List ℤ)
+    → ¬ (length octets ≡ 160) → a .number ≡ 2 → ¬ Encodes e (alaw-samples octets) lent a left
+codewords-first-octets e octets lent a left h n p = second-first (a .number) octets lent _ (encode-alaw-refuses e octets lent a left p) h n
+
+pub codewords-first-heard : (d : Decoder) (codewords lent : List ℤ) (a : Decoded) (left : List ℤ)
+    → ¬ (length lent ≡ 160) → a .number ≡ 2 → ¬ Decodes d codewords lent a left
+codewords-first-heard d codewords lent a left h n p = second-first (a .number) lent codewords _ (decode-refuses d codewords lent a left p) h n
+
+pub codewords-first-heard-octets : (d : Decoder) (codewords : List ℤ) (lent : List ℕ) (a : Decoded) (left : List ℕ)
+    → ¬ (length lent ≡ 160) → a .number ≡ 2 → ¬ DecodesAlaw d codewords lent a left
+codewords-first-heard-octets d codewords lent a left h n p =
+    second-first (a .number) lent codewords _ (decode-alaw-refuses d codewords lent a left p) h n
 
 -- ---- from home: what pulses, silence and their frames come to, computed
 
