@@ -49,8 +49,8 @@ idle-frame = map pos (8 ∷ 25 ∷ 17 ∷ 10 ∷ 8 ∷ 4 ∷ 3 ∷ 2 ∷ 118 ∷
 abbrev home : Ends
 home = at-home (encoder-of home-coder) (decoder-of home-decoder)
 
--- the pulses are coded; a decode_alaw into 159 octets is refused; the frame is handed over with its stray bits, and heard as octets; an encode into 75 codewords is refused; octets of an
--- idle line are coded; their frame is handed over, and heard as samples
+-- the pulses are coded; a decode_alaw into 159 octets is refused; the frame is handed over with its stray bits, and heard as octets; an
+-- encode into 75 codewords is refused; octets of an idle line are coded; their frame is handed over, and heard as samples
 abbrev pub asks : List Ask
 asks =
     encode pulses (zeros 76) ∷ decode-alaw (zeros 76) (idle 159) ∷ decode-alaw strayed (idle 160)

@@ -1,7 +1,7 @@
 -- Demand 3: both ends stay together.
 --
--- Take any finite sequence of calls of encode and decode, on samples or on octets of A-law, in any order and on any buffers, from home at both ends; calls that are refused may stand
--- anywhere in it. The samples of octets are those that they stand for.
+-- Take any finite sequence of calls of encode and decode, on samples or on octets of A-law, in any order and on any buffers, from home at
+-- both ends; calls that are refused may stand anywhere in it. The samples of octets are those that they stand for.
 -- If (`Handed`)
 --   no frame is coded while the one before it still waits to be handed over, and
 --   what is decoded is the frame that waits, its valid bits intact, whatever the other bits are,
@@ -66,17 +66,17 @@ Made t (decodes codewords samples a left) = Decodes (t .decoder) codewords sampl
 Made t (decodes-alaw codewords octets a left) = DecodesAlaw (t .decoder) codewords octets a left
 
 -- the condition, which is for those who make the calls to meet
-abbrev pub may-send : Ends → Encoded → Type 0
-may-send t a = a .number ≡ 0 → t .waiting ≡ none
+abbrev pub MaySend : Ends → Encoded → Type 0
+MaySend t a = a .number ≡ 0 → t .waiting ≡ none
 
-abbrev pub may-hear : Ends → List ℤ → Decoded → Type 0
-may-hear t codewords a = a .number ≡ 0 → Option·map valid (t .waiting) ≡ some (valid codewords)
+abbrev pub MayHear : Ends → List ℤ → Decoded → Type 0
+MayHear t codewords a = a .number ≡ 0 → Option·map valid (t .waiting) ≡ some (valid codewords)
 
 unfoldable pub Handed : Ends → Call → Type 0
-Handed t (encodes _ _ a _) = may-send t a
-Handed t (encodes-alaw _ _ a _) = may-send t a
-Handed t (decodes codewords _ a _) = may-hear t codewords a
-Handed t (decodes-alaw codewords _ a _) = may-hear t codewords a
+Handed t (encodes _ _ a _) = MaySend t a
+Handed t (encodes-alaw _ _ a _) = MaySend t a
+Handed t (decodes codewords _ a _) = MayHear t codewords a
+Handed t (decodes-alaw codewords _ a _) = MayHear t codewords a
 
 -- the lags of a frame, as the decoder reads them
 unfoldable pub lags : List ℤ → List ℤ
@@ -116,7 +116,7 @@ together e d p q = along-calls (at-home e d) (rw (p, q) home-holds)
 
     -- a frame that is coded, or refused, keeps it
     kept-sent : (t : Ends) (samples codewords : List ℤ) (a : Encoded) (left : List ℤ)
-        → Encodes (t .encoder) samples codewords a left → every word samples ≡ true → may-send t a → Held t → Held (sent t a left)
+        → Encodes (t .encoder) samples codewords a left → every word samples ≡ true → MaySend t a → Held t → Held (sent t a left)
     kept-sent t samples codewords a left m w k h =
         rw (m .state, m .number, m .codewords) (encode-holds _ _ _ samples codewords h w (rw (m .number) at k))
 
@@ -128,11 +128,11 @@ together e d p q = along-calls (at-home e d) (rw (p, q) home-holds)
 
     -- so is one that is decoded
     kept-heard : (t : Ends) (codewords samples : List ℤ) (a : Decoded) (left : List ℤ)
-        → Decodes (t .decoder) codewords samples a left → may-hear t codewords a → Held t → Held (heard t a)
+        → Decodes (t .decoder) codewords samples a left → MayHear t codewords a → Held t → Held (heard t a)
     kept-heard t codewords samples a left m k h = rw (m .state, m .number) (decode-holds _ _ _ codewords samples h (rw (m .number) at k))
 
     shown-heard : (t : Ends) (codewords samples : List ℤ) (a : Decoded) (left : List ℤ)
-        → Decodes (t .decoder) codewords samples a left → may-hear t codewords a → Held t → Same t a
+        → Decodes (t .decoder) codewords samples a left → MayHear t codewords a → Held t → Same t a
     shown-heard t codewords samples a left m k h =
         λ n.
         let g = decode-shows _ _ _ codewords samples h (rw (m .number) at k) (rw (m .number) at n) in
