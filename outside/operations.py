@@ -1,11 +1,14 @@
 #!/usr/bin/env python3
-"""The operations of clause 4.1 of ETS 300 961, computed on plain integers: what the program `operations` must print.
+"""The operations of clause 4.1 of ETS 300 961, and A-law by the rule of W-204, computed on plain integers: what the program `operations`
+must print.
 
     python3 outside/operations.py                     writes the text; crates/operations/stdout is made so
     python3 outside/operations.py --compare FILE      compares it with FILE and says where the first difference is
-    python3 outside/operations.py --libgsm PATH       compares each value with libgsm's own functions; PATH is libgsm.so, or `auto`
+    python3 outside/operations.py --libgsm PATH       compares each value of 4.1 with libgsm's own functions; PATH is libgsm.so, or
+                                                      `auto`. libgsm has no A-law
 
-Written from the standard and the project's scope page, not from the crates. Status 1: a difference that is not accounted for."""
+Written from the standard, the project's scope page and its requests, not from the crates. Status 1: a difference that is not accounted
+for."""
 import argparse
 import ctypes
 import ctypes.util
@@ -83,6 +86,25 @@ def norm(x):
     return shifts
 
 
+def expand(code):
+    """W-204: the 13-bit value of an A-law code. The top bit set means positive; then three bits of segment and four of step."""
+    bits = code ^ 0x55
+    segment, step = bits >> 4 & 7, bits & 15
+    magnitude = 2 * step + 1 if segment == 0 else (2 * step + 33) * 2 ** (segment - 1)
+    return magnitude if bits & 128 else -magnitude
+
+
+def compress(v):
+    """W-204: the A-law code of a 13-bit value. A negative value counts as -v - 1."""
+    top, counted = (0, -v - 1) if v < 0 else (128, v)
+    if counted < 32:
+        segment, step = 0, counted // 2
+    else:
+        segment = next(s for s in range(1, 8) if 16 <= counted // 2 ** s <= 31)
+        step = counted // 2 ** segment - 16
+    return (top | segment << 4 | step) ^ 0x55
+
+
 # name, first arguments, second arguments, operation
 PAIRS = [
     ('add', WORDS, WORDS, lambda a, b: saturate(a + b, 16)),
@@ -107,6 +129,12 @@ SINGLES = [
     ('norm', [x for x in LONGS if x > 0], norm),
 ]
 
+# name, arguments, how many a row, operation
+RUNS = [
+    ('expand', range(256), 16, expand),
+    ('compress', range(-4096, 4096), 32, compress),
+]
+
 
 # ---- the text
 
@@ -120,6 +148,9 @@ def rows():
             yield [name, a] + [operation(a, b) for b in seconds]
     for name, arguments, operation in SINGLES:
         yield [name] + [operation(a) for a in arguments]
+    for name, arguments, width, operation in RUNS:
+        for first in arguments[::width]:
+            yield [name, first] + [operation(a) for a in range(first, first + width)]
 
 
 def text():
@@ -188,7 +219,7 @@ def functions(path):
 
 
 def cases():
-    """Of each value: the operation's name, its arguments, the value."""
+    """Of each value of 4.1: the operation's name, its arguments, the value."""
     for name, firsts, seconds, operation in PAIRS:
         for a in firsts:
             for b in seconds:

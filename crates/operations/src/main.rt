@@ -1,6 +1,7 @@
-// An outside check of 4.1: puts arguments at and around the ends of the range through every operation and prints the results. The
-// stored output comes from outside/operations.py, never from here. Each function that prints says whether it could; if not, all stops.
-ghost use Prim.Native.Nat.{_<_};
+// An outside check of 4.1 and of A-law: puts arguments at and around the ends of the range through every operation, and every code and every
+// value of 13 bits through A-law, and prints the results. The stored output comes from outside/operations.py, never from here. Each
+// function that prints says whether it could; if not, all stops.
+ghost use Prim.Native.Nat.{_<_, _≤_};
 
 const WORDS: [i16; 20] = [
     -32768,
@@ -140,6 +141,10 @@ fn print_word(n: i16) -> bool {
     print_long(longs::long_word(n))
 }
 
+fn end_row() -> bool {
+    io::write_all(1, b"\n")
+}
+
 // Only a positive number has a norm; for another nothing is printed.
 fn print_norm(n: i32) -> bool {
     if 0 < n {
@@ -175,7 +180,7 @@ fn print_list(name: &[u8], list: List) -> bool {
             return false;
         }
     }
-    io::write_all(1, b"\n")
+    end_row()
 }
 
 // The table's first argument i.
@@ -225,7 +230,7 @@ fn print_row(name: &[u8], table: Table, i: usize) -> bool
             return false;
         }
     }
-    io::write_all(1, b"\n")
+    end_row()
 }
 
 fn print_table(name: &[u8], table: Table) -> bool {
@@ -270,8 +275,73 @@ fn print_singles() -> bool {
         && print_list(b"norm", List::Norm)
 }
 
+// A row's name and the first of its arguments.
+fn print_label(name: &[u8], first: i16) -> bool {
+    io::write_all(1, name) && print_word(first)
+}
+
+// The values of 16 codes, from one on.
+fn print_expanded(first: u8) -> bool
+    requires { ⌜ first ≤ 240 ⌝ }
+{
+    if !print_label(b"expand", first as i16) {
+        return false;
+    }
+    for i in 0..16u8 {
+        if !print_word(alaw::expand(first + i)) {
+            return false;
+        }
+    }
+    end_row()
+}
+
+fn print_expansion() -> bool {
+    for i in 0..16u8 {
+        if !print_expanded(16 * i) {
+            return false;
+        }
+    }
+    true
+}
+
+// The value of 13 bits that is n above the least.
+fn value(n: usize) -> i16 {
+    words::sub(words::word_of(n), 4096)
+}
+
+// The codes of 32 values, from one on.
+fn print_compressed(n: usize) -> bool
+    requires { ⌜ n < 8192 ⌝ }
+{
+    if !print_label(b"compress", value(n)) {
+        return false;
+    }
+    for i in 0..32usize {
+        if !print_word(alaw::compress(value(n + i)) as i16) {
+            return false;
+        }
+    }
+    end_row()
+}
+
+fn print_compression() -> bool {
+    for i in 0..256usize {
+        if !print_compressed(32 * i) {
+            return false;
+        }
+    }
+    true
+}
+
 fn main() {
-    if print_arguments() && print_word_pairs() && print_long_pairs() && print_shifts() {
-        print_singles();
+    if print_arguments()
+        && print_word_pairs()
+        && print_long_pairs()
+        && print_shifts()
+        && print_singles()
+    {
+        if print_expansion() {
+            print_compression();
+        }
     }
 }

@@ -4,10 +4,10 @@ use Rattle.operations.proofs.print_list.Statement.{statement}
 use Rattle.operations.proofs.print_list.Tie as tie
 
 abbrev Inv-loop : tie.InvT-loop
-Inv-loop _ _ _ _ i = i ≤ 20
+Inv-loop _ _ _ i = i ≤ 20
 
 abbrev μ-loop : tie.MeasureT-loop
-μ-loop _ _ _ _ i = 20 - i
+μ-loop _ _ _ i = 20 - i
 
 pub print-list-spec : {M : Type 1} → statement M
 print-list-spec =
@@ -19,7 +19,6 @@ print-list-spec =
     (λ c. search needs)
     (λ c. search needs)
     (λ c κs. search needs)
-    (λ c. search needs)
     (λ c. search needs)
     (λ c. search needs)
     (λ c. search needs)

@@ -4,10 +4,10 @@ use Rattle.operations.proofs.print_row.Statement.{statement}
 use Rattle.operations.proofs.print_row.Tie as tie
 
 abbrev Inv-loop : tie.InvT-loop
-Inv-loop _ _ _ _ _ j = j ≤ 20
+Inv-loop _ _ _ _ j = j ≤ 20
 
 abbrev μ-loop : tie.MeasureT-loop
-μ-loop _ _ _ _ _ j = 20 - j
+μ-loop _ _ _ _ j = 20 - j
 
 pub print-row-spec : {M : Type 1} → statement M
 print-row-spec =
@@ -20,7 +20,6 @@ print-row-spec =
     (λ c. search needs)
     (λ c. search needs)
     (λ c κs. search needs)
-    (λ c. search needs)
     (λ c. search needs)
     (λ c. search needs)
     (λ c. search needs)

@@ -1,30 +1,31 @@
-use Prim.Native.Nat.{_-_}
+use Prim.Native.Nat.{_≤_, _-_}
 use borrow.Author.Needs.{needs}
-use Rattle.calls.proofs.bytes_in.Statement.{statement}
-use Rattle.calls.proofs.bytes_in.Tie as tie
+use Rattle.operations.proofs.print_expanded.Statement.{statement}
+use Rattle.operations.proofs.print_expanded.Tie as tie
 
 abbrev Inv-loop : tie.InvT-loop
-Inv-loop halves r₀ i₀ r i = Unit {0}
+Inv-loop _ _ i = i ≤ 16
 
 abbrev μ-loop : tie.MeasureT-loop
-μ-loop halves r₀ i₀ r i = 40 - i
+μ-loop _ _ i = 16 - i
 
-pub bytes-in-spec : {M : Type 1} → statement M
-bytes-in-spec =
+pub print-expanded-spec : {M : Type 1} → statement M
+print-expanded-spec =
     tie.close
     (tie.spec
     Inv-loop
     μ-loop
     (λ c. search needs)
     (λ c. search needs)
+    (λ c κs. search needs)
     (λ c. search needs)
     (λ c. search needs)
+    (λ c. search needs)
+    (λ c κs. search needs)
     (λ c κs. search needs)
     (λ c. search needs)
     (λ c. search needs)
     (λ c. search needs)
     (λ c. search needs)
-    (λ c. search needs)
-    (λ c. search needs)
-    (λ c. search needs)
+    (λ c κs. search needs)
     (λ c. search needs))

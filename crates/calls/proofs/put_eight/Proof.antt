@@ -1,21 +1,20 @@
-use Prim.Native.Nat.{_-_, _≤_}
+use Prim.Native.Nat.{_-_}
 use borrow.Author.Needs.{needs}
-use Rattle.calls.proofs.put.Statement.{statement}
-use Rattle.calls.proofs.put.Tie as tie
+use Rattle.calls.proofs.put_eight.Statement.{statement}
+use Rattle.calls.proofs.put_eight.Tie as tie
 
 abbrev Inv-loop : tie.InvT-loop
-Inv-loop words at r₀ i₀ r i = at ≤ i
+Inv-loop at words r₀ i₀ r i = Unit {0}
 
 abbrev μ-loop : tie.MeasureT-loop
-μ-loop words at r₀ i₀ r i = 440 - i
+μ-loop at words r₀ i₀ r i = 8 - i
 
-pub put-spec : {M : Type 1} → statement M
-put-spec =
+pub put-eight-spec : {M : Type 1} → statement M
+put-eight-spec =
     tie.close
     (tie.spec
     Inv-loop
     μ-loop
-    (λ c. search needs)
     (λ c. search needs)
     (λ c. search needs)
     (λ c. search needs)

@@ -1,0 +1,25 @@
+use Prim.Native.Nat.{_≤_, _-_}
+use borrow.Author.Needs.{needs}
+use Rattle.operations.proofs.print_compression.Statement.{statement}
+use Rattle.operations.proofs.print_compression.Tie as tie
+
+abbrev Inv-loop : tie.InvT-loop
+Inv-loop _ i = i ≤ 256
+
+abbrev μ-loop : tie.MeasureT-loop
+μ-loop _ i = 256 - i
+
+pub print-compression-spec : {M : Type 1} → statement M
+print-compression-spec =
+    tie.close
+    (tie.spec
+    Inv-loop
+    μ-loop
+    (λ c. search needs)
+    (λ c. search needs)
+    (λ c κs. search needs)
+    (λ c. search needs)
+    (λ c. search needs)
+    (λ c. search needs)
+    (λ c. search needs)
+    (λ c. search needs))
