@@ -1,7 +1,6 @@
 // An outside check of 4.1 and of A-law: puts arguments at and around the ends of the range through every operation, and every code and every
 // value of 13 bits through A-law, and prints the results. The stored output comes from outside/operations.py, never from here. Each
 // function that prints says whether it could; if not, all stops.
-ghost use Prim.Native.Nat.{_<_, _≤_};
 
 const WORDS: [i16; 20] = [
     -32768,
@@ -83,7 +82,7 @@ enum List {
     Norm,
 }
 
-// What takes a line for each first argument: the operations on two.
+// What takes a line for each first argument: the operations on two, and A-law, which goes through all its arguments.
 enum Table {
     Add,
     Sub,
@@ -97,25 +96,33 @@ enum Table {
     Shl,
     LShr,
     LShl,
+    Expand,
+    Compress,
 }
 
-// The arguments, each by its place.
-fn word(i: usize) -> i16
-    requires { ⌜ i < 20 ⌝ }
-{
-    WORDS[i]
+// The arguments, each by its place; after the last comes the first again.
+fn word(i: usize) -> i16 {
+    let at = i % 20;
+    WORDS[at]
 }
 
-fn long(i: usize) -> i32
-    requires { ⌜ i < 20 ⌝ }
-{
-    LONGS[i]
+fn long(i: usize) -> i32 {
+    let at = i % 20;
+    LONGS[at]
 }
 
-fn count(i: usize) -> i16
-    requires { ⌜ i < 20 ⌝ }
-{
-    COUNTS[i]
+fn count(i: usize) -> i16 {
+    let at = i % 20;
+    COUNTS[at]
+}
+
+// Place j of row i: of the codes, 16 rows of 16, and of the values of 13 bits, 256 rows of 32.
+fn code(i: usize, j: usize) -> u8 {
+    (16 * (i % 16) + j % 16) as u8
+}
+
+fn value(i: usize, j: usize) -> i16 {
+    words::sub(words::word_of(32 * (i % 256) + j % 32), 4096)
 }
 
 // The size of a number. The least number has no counterpart, so one is added before the sign is turned and again after.
@@ -141,6 +148,11 @@ fn print_word(n: i16) -> bool {
     print_long(longs::long_word(n))
 }
 
+// How a row begins, with its name and its first argument, and how it ends.
+fn print_label(name: &[u8], first: i32) -> bool {
+    io::write_all(1, name) && print_long(first)
+}
+
 fn end_row() -> bool {
     io::write_all(1, b"\n")
 }
@@ -155,9 +167,7 @@ fn print_norm(n: i32) -> bool {
 }
 
 // The list at its argument i.
-fn print_item(list: List, i: usize) -> bool
-    requires { ⌜ i < 20 ⌝ }
-{
+fn print_item(list: List, i: usize) -> bool {
     let a = word(i);
     let x = long(i);
     match list {
@@ -184,62 +194,65 @@ fn print_list(name: &[u8], list: List) -> bool {
 }
 
 // The table's first argument i.
-fn print_first(table: Table, i: usize) -> bool
-    requires { ⌜ i < 20 ⌝ }
-{
+fn first(table: Table, i: usize) -> i32 {
     match table {
-        Table::LAdd | Table::LSub | Table::LShr | Table::LShl => print_long(long(i)),
-        _ => print_word(word(i)),
+        Table::LAdd | Table::LSub | Table::LShr | Table::LShl => long(i),
+        Table::Expand => code(i, 0) as i32,
+        Table::Compress => longs::long_word(value(i, 0)),
+        _ => longs::long_word(word(i)),
     }
 }
 
-// The table at its first argument i and its second argument j: words a and b, long words x and y, or a shift by n.
-fn print_cell(table: Table, i: usize, j: usize) -> bool
-    requires { ⌜ i < 20 ⌝ }
-    requires { ⌜ j < 20 ⌝ }
-{
+// The table at its first argument i and its second argument j: words a and b, long words x and y, or a shift by n; or A-law at place j of
+// row i.
+fn cell(table: Table, i: usize, j: usize) -> i32 {
     let a = word(i);
     let b = word(j);
     let x = long(i);
     let y = long(j);
     let n = count(j);
     match table {
-        Table::Add => print_word(words::add(a, b)),
-        Table::Sub => print_word(words::sub(a, b)),
-        Table::Mult => print_word(words::mult(a, b)),
-        Table::MultR => print_word(words::mult_r(a, b)),
-        Table::Div => print_word(words::div(a, b)),
-        Table::LMult => print_long(longs::l_mult(a, b)),
-        Table::LAdd => print_long(longs::l_add(x, y)),
-        Table::LSub => print_long(longs::l_sub(x, y)),
-        Table::Shr => print_word(shifts::shr(a, n)),
-        Table::Shl => print_word(shifts::shl(a, n)),
-        Table::LShr => print_long(shifts::l_shr(x, n)),
-        Table::LShl => print_long(shifts::l_shl(x, n)),
+        Table::Add => longs::long_word(words::add(a, b)),
+        Table::Sub => longs::long_word(words::sub(a, b)),
+        Table::Mult => longs::long_word(words::mult(a, b)),
+        Table::MultR => longs::long_word(words::mult_r(a, b)),
+        Table::Div => longs::long_word(words::div(a, b)),
+        Table::LMult => longs::l_mult(a, b),
+        Table::LAdd => longs::l_add(x, y),
+        Table::LSub => longs::l_sub(x, y),
+        Table::Shr => longs::long_word(shifts::shr(a, n)),
+        Table::Shl => longs::long_word(shifts::shl(a, n)),
+        Table::LShr => shifts::l_shr(x, n),
+        Table::LShl => shifts::l_shl(x, n),
+        Table::Expand => longs::long_word(alaw::expand(code(i, j))),
+        Table::Compress => alaw::compress(value(i, j)) as i32,
     }
 }
 
-fn print_row(name: &[u8], table: Table, i: usize) -> bool
-    requires { ⌜ i < 20 ⌝ }
-{
-    if !(io::write_all(1, name) && print_first(table, i)) {
+fn print_row(name: &[u8], table: Table, i: usize, width: usize) -> bool {
+    if !print_label(name, first(table, i)) {
         return false;
     }
-    for j in 0..20usize {
-        if !print_cell(table, i, j) {
+    for j in 0..width {
+        if !print_long(cell(table, i, j)) {
             return false;
         }
     }
     end_row()
 }
 
-fn print_table(name: &[u8], table: Table) -> bool {
-    for i in 0..20usize {
-        if !print_row(name, table, i) {
+fn print_rows(name: &[u8], table: Table, rows: usize, width: usize) -> bool {
+    for i in 0..rows {
+        if !print_row(name, table, i, width) {
             return false;
         }
     }
     true
+}
+
+// An operation's table, of every argument with every other.
+fn print_table(name: &[u8], table: Table) -> bool {
+    print_rows(name, table, 20, 20)
 }
 
 fn print_arguments() -> bool {
@@ -275,62 +288,9 @@ fn print_singles() -> bool {
         && print_list(b"norm", List::Norm)
 }
 
-// A row's name and the first of its arguments.
-fn print_label(name: &[u8], first: i16) -> bool {
-    io::write_all(1, name) && print_word(first)
-}
-
-// The values of 16 codes, from one on.
-fn print_expanded(first: u8) -> bool
-    requires { ⌜ first ≤ 240 ⌝ }
-{
-    if !print_label(b"expand", first as i16) {
-        return false;
-    }
-    for i in 0..16u8 {
-        if !print_word(alaw::expand(first + i)) {
-            return false;
-        }
-    }
-    end_row()
-}
-
-fn print_expansion() -> bool {
-    for i in 0..16u8 {
-        if !print_expanded(16 * i) {
-            return false;
-        }
-    }
-    true
-}
-
-// The value of 13 bits that is n above the least.
-fn value(n: usize) -> i16 {
-    words::sub(words::word_of(n), 4096)
-}
-
-// The codes of 32 values, from one on.
-fn print_compressed(n: usize) -> bool
-    requires { ⌜ n < 8192 ⌝ }
-{
-    if !print_label(b"compress", value(n)) {
-        return false;
-    }
-    for i in 0..32usize {
-        if !print_word(alaw::compress(value(n + i)) as i16) {
-            return false;
-        }
-    }
-    end_row()
-}
-
-fn print_compression() -> bool {
-    for i in 0..256usize {
-        if !print_compressed(32 * i) {
-            return false;
-        }
-    }
-    true
+fn print_alaw() -> bool {
+    print_rows(b"expand", Table::Expand, 16, 16)
+        && print_rows(b"compress", Table::Compress, 256, 32)
 }
 
 fn main() {
@@ -340,8 +300,6 @@ fn main() {
         && print_shifts()
         && print_singles()
     {
-        if print_expansion() {
-            print_compression();
-        }
+        print_alaw();
     }
 }

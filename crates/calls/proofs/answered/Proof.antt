@@ -1,3 +1,4 @@
+-- The loop clears the head and ends.
 use Prim.Native.Nat.{_-_}
 use borrow.Author.Needs.{needs}
 use Rattle.calls.proofs.answered.Statement.{statement}

@@ -1,3 +1,4 @@
+-- Eight words are read within the record.
 use Prim.Native.Nat.{_-_}
 use borrow.Author.Needs.{needs}
 use Rattle.calls.proofs.eight_in.Statement.{statement}

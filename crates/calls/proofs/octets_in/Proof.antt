@@ -1,3 +1,4 @@
+-- Octets are read within the record and the room for them.
 use Prim.Native.Nat.{_-_}
 use borrow.Author.Needs.{needs}
 use Rattle.calls.proofs.octets_in.Statement.{statement}

@@ -1,3 +1,4 @@
+-- A history is put within the record.
 use Prim.Native.Nat.{_-_}
 use borrow.Author.Needs.{needs}
 use Rattle.calls.proofs.put_history.Statement.{statement}

@@ -1,3 +1,4 @@
+-- Octets are put within the record; an octet is a word.
 use Prim.Native.Nat.{_-_}
 use lib.ListN.{getD}
 use mir.Syntax.{w8}

@@ -1,3 +1,4 @@
+-- The turns are counted down, so the program ends.
 use native.Mathlib.Omega.{arith}
 use borrow.Author.Needs.{needs}
 use Rattle.decode_alaw.proofs.main.Statement.{statement}

@@ -1,10 +1,11 @@
-use Prim.Native.Nat.{_≤_, _-_}
+-- The loop over the arguments ends.
+use Prim.Native.Nat.{_-_}
 use borrow.Author.Needs.{needs}
 use Rattle.operations.proofs.print_list.Statement.{statement}
 use Rattle.operations.proofs.print_list.Tie as tie
 
 abbrev Inv-loop : tie.InvT-loop
-Inv-loop _ _ _ i = i ≤ 20
+Inv-loop _ _ _ _ = Unit {0}
 
 abbrev μ-loop : tie.MeasureT-loop
 μ-loop _ _ _ i = 20 - i

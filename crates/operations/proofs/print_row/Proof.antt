@@ -1,13 +1,14 @@
-use Prim.Native.Nat.{_≤_, _-_}
+-- The loop over the places of a row ends.
+use Prim.Native.Nat.{_-_}
 use borrow.Author.Needs.{needs}
 use Rattle.operations.proofs.print_row.Statement.{statement}
 use Rattle.operations.proofs.print_row.Tie as tie
 
 abbrev Inv-loop : tie.InvT-loop
-Inv-loop _ _ _ _ j = j ≤ 20
+Inv-loop _ _ _ _ _ _ = Unit {0}
 
 abbrev μ-loop : tie.MeasureT-loop
-μ-loop _ _ _ _ j = 20 - j
+μ-loop _ _ _ width _ j = width - j
 
 pub print-row-spec : {M : Type 1} → statement M
 print-row-spec =
@@ -19,6 +20,7 @@ print-row-spec =
     (λ c κs. search needs)
     (λ c. search needs)
     (λ c. search needs)
+    (λ c κs. search needs)
     (λ c κs. search needs)
     (λ c. search needs)
     (λ c. search needs)

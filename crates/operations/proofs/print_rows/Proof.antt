@@ -1,16 +1,17 @@
-use Prim.Native.Nat.{_≤_, _-_}
+-- The loop over the rows ends.
+use Prim.Native.Nat.{_-_}
 use borrow.Author.Needs.{needs}
-use Rattle.operations.proofs.print_table.Statement.{statement}
-use Rattle.operations.proofs.print_table.Tie as tie
+use Rattle.operations.proofs.print_rows.Statement.{statement}
+use Rattle.operations.proofs.print_rows.Tie as tie
 
 abbrev Inv-loop : tie.InvT-loop
-Inv-loop _ _ _ i = i ≤ 20
+Inv-loop _ _ _ _ _ _ = Unit {0}
 
 abbrev μ-loop : tie.MeasureT-loop
-μ-loop _ _ _ i = 20 - i
+μ-loop _ _ rows _ _ i = rows - i
 
-pub print-table-spec : {M : Type 1} → statement M
-print-table-spec =
+pub print-rows-spec : {M : Type 1} → statement M
+print-rows-spec =
     tie.close
     (tie.spec
     Inv-loop
