@@ -297,8 +297,8 @@ fn least(a: u16, b: u16) -> u16
     if a < b { a } else { b }
 }
 
-// Segment and step of a value of 12 bits. Segment s is a line, a step for each 2^s; no line is below the one whose segment it is, so the
-// least of the seven is wanted, and no segment is looked for. Segments 0 and 1 are one line.
+// Segment and step of a value of 12 bits. Each segment is a stretch of a line, with a step for each 2^s values, and at every value the line of
+// its own segment is the least of the seven: so none has to be looked for. Segments 0 and 1 lie on one line.
 fn placed(n: u16) -> u8
     requires { ⌜ n < 4096 ⌝ }
     ensures is { λ r. ⌜ r ≡ placed n ⌝ }

@@ -1,10 +1,9 @@
 -- The loop fills the room with the octets, one for each sample.
 use Prim.Native.Nat.{_-_, _≤_}
-use mathlib.Core.Path.{_≡_, sym, _∙_}
-use mathlib.Core.List.{map}
+use mathlib.Core.Path.{_≡_}
 use native.Mathlib.Omega.{arith}
-use lib.IntN.{ℤ, pos}
-use lib.ListN.{length, getD, length-set, length-map}
+use lib.IntN.{pos}
+use lib.ListN.{length, getD, length-set}
 use mir.Syntax.{w16}
 use mir.Val.{SFits}
 use borrow.Author.Needs.{needs}
@@ -13,6 +12,7 @@ use Rattle.lists.specs.Fill.{filled, fill-next, fill-end}
 use Rattle.lists.specs.Tab.{map-at}
 use Rattle.standard.specs.Arithmetic.{_>>_}
 use Rattle.standard.specs.Alaw.{compressed, alaw-octets}
+use Rattle.alaw.specs.Facts.{octets-length}
 use Rattle.alaw.proofs.octets.Statement.{statement}
 use Rattle.alaw.proofs.octets.Tie as tie
 
@@ -34,15 +34,14 @@ loop-again c =
     cc (back word, back (shr-fits 8 word), c .compress .ensures, map-at (λ x. compressed (x >> 3)) samples i (pos 0) 0 (omega arith)) in (
       omega arith,
       simp length-set (turn .loop .inv .1),
-      fill-next (alaw-octets samples) (start .args .octets .now) i (turn .loop .inv .2) 0 (simp length-map (omega arith)) (omega arith) own,
+      fill-next (alaw-octets samples) (start .args .octets .now) i (turn .loop .inv .2) 0 (omega (arith, octets-length samples)) (omega arith) own,
     )
 
 returns : tie.Need-returns Inv-loop μ-loop
-unfolding alaw-octets
 returns c =
     let start = c .before .before .before in
     let samples = start .args .samples .now in
-    fill-end (alaw-octets samples) (start .args .octets .now) (c .before .loop .i) (c .before .loop .inv .2) (simp length-map (omega arith)) (omega arith)
+    fill-end (alaw-octets samples) (start .args .octets .now) (c .before .loop .i) (c .before .loop .inv .2) (omega (arith, octets-length samples)) (omega arith)
 
 pub octets-spec : {M : Type 1} → statement M
 octets-spec =

@@ -4,16 +4,16 @@ use mathlib.Core.Path.{_≡_, ap₂, _∙_}
 use mathlib.Core.List.{List}
 use native.Mathlib.Omega.{arith}
 use lib.IntN.{ℤ, pos, _*ℤ_}
-use lib.ListN.{length, getD, length-set, length-map}
+use lib.ListN.{length, getD, length-set}
 use mir.Syntax.{w8, w16}
 use mir.Val.{Fits}
 use borrow.Author.Needs.{needs, sfits-of}
 use Rattle.integers.specs.Halves.{mem}
 use Rattle.integers.specs.Ranges.{back, res}
 use Rattle.lists.specs.Fill.{filled, fill-next, fill-end}
-use Rattle.lists.specs.Tab.{tab, tab-at-zero, map-at}
+use Rattle.lists.specs.Tab.{tab-at-zero, map-at}
 use Rattle.standard.specs.Alaw.{expanded, alaw-samples}
-use Rattle.alaw.specs.Facts.{expanded-most}
+use Rattle.alaw.specs.Facts.{expanded-most, samples-length}
 use Rattle.alaw.proofs.samples.Statement.{statement}
 use Rattle.alaw.proofs.samples.Tie as tie
 
@@ -55,15 +55,14 @@ loop-again c =
     cc (res (c .sample), c .sample .ensures, back (sfits-of (read .sample-arg .given)), entry read, target) in (
       omega arith,
       simp length-set (turn .loop .inv .1),
-      fill-next (alaw-samples octets) (start .args .samples .now) i (turn .loop .inv .2) (pos 0) (simp length-map (omega arith)) (omega arith) own,
+      fill-next (alaw-samples octets) (start .args .samples .now) i (turn .loop .inv .2) (pos 0) (omega (arith, samples-length octets)) (omega arith) own,
     )
 
 returns : tie.Need-returns Inv-loop μ-loop
-unfolding alaw-samples
 returns c =
     let start = c .before .before .before .before in
     let octets = start .args .octets .now in
-    fill-end (alaw-samples octets) (start .args .samples .now) (c .before .loop .i) (c .before .loop .inv .2) (simp length-map (omega arith)) (omega arith)
+    fill-end (alaw-samples octets) (start .args .samples .now) (c .before .loop .i) (c .before .loop .inv .2) (omega (arith, samples-length octets)) (omega arith)
 
 pub samples-spec : {M : Type 1} → statement M
 samples-spec =
