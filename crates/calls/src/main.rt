@@ -6,7 +6,6 @@ use encoder::Encoded;
 use encoder::Encoder;
 use encoder::Ending;
 use encoder::Mark;
-ghost use mathlib.Core.Path.{_≡_};
 ghost use Prim.Native.Nat.{_+_, _≤_};
 
 // A record: the head, 48 words; 16 house values; the state, 240; room for 168 samples or octets, for 168 samples of a residual, for 84 codewords,

@@ -3,8 +3,7 @@
 use synthesis::Cells;
 ghost use mathlib.Core.Path.{_≡_};
 ghost use mathlib.Core.Bool.{true};
-ghost use lib.IntN.{pos};
-ghost use lib.ListN.{length, replicate};
+ghost use lib.ListN.{length};
 ghost use Rattle.standard.specs.LongTerm.{is-lag};
 ghost use Rattle.standard.specs.Frame.{received};
 ghost use Rattle.standard.specs.Decoder as standard;
@@ -72,13 +71,6 @@ fn refuse(number: u8, m: Decoder) -> Decoded
     }
 }
 
-// Room for the samples of a frame.
-fn room() -> [i16; 160]
-    ensures { λ r. ⌜ r ≡ replicate 160 (pos 0) ⌝ }
-{
-    [0; 160]
-}
-
 impl Decoder {
     // Every carried value 0, the remembered lag 40 (4.3.2).
     pub fn home() -> Decoder
@@ -120,7 +112,7 @@ impl Decoder {
         if octets.len() != 160 {
             return refuse(1, self);
         }
-        let mut samples = room();
+        let mut samples = [0; 160];
         let a = self.decode(codewords, &mut samples);
         if a.number == 0 {
             alaw::octets(&samples, octets);

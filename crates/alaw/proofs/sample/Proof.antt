@@ -1,6 +1,5 @@
 -- Eight times a value of 13 bits is a word.
-use lib.IntN.{pos}
-use mathlib.Core.Path.{_∙_, ap}
+use mathlib.Core.Path.{_∙_}
 use Rattle.integers.specs.Halves.{zar, know}
 use Rattle.integers.specs.Sums.{scale-is}
 use Rattle.integers.specs.Ranges.{back}

@@ -1,6 +1,6 @@
 -- decode_alaw is decode into a room of 160, heard as A-law where it is done.
 use Prim.Native.Nat.{ℕ}
-use mathlib.Core.Path.{_≡_, sym, ap, _∙_}
+use mathlib.Core.Path.{_≡_}
 use mathlib.Core.List.{List}
 use lib.ListN.{length}
 use borrow.Author.Needs.{needs}
@@ -14,24 +14,24 @@ returns : tie.Need-returns
 returns c = rw (c .refuse .ensures) (refusal-keeps-octets _ _ _ 0 (decode-alaw-exactly _ _ _ .first (c .before .if1 .taken)))
 
 module _ (c : tie.After-decode) where
-  abbrev roomed : tie.After-room
-  roomed = c .before .before
+  abbrev tested : tie.Else1
+  tested = c .before .before
 
   -- the octets, as many as there is room for samples
   abbrev lent : List ℕ
-  lent = roomed .before .before .before .args .octets .now
+  lent = tested .before .before .args .octets .now
 
-  as-many : length lent ≡ length (roomed .room .result)
-  as-many = roomed .before .if1 .left ∙ sym (ap length (roomed .room .ensures))
+  as-many : length lent ≡ 160
+  as-many = tested .if1 .left
 
 -- done: the octets of the samples
 returns-2 : tie.Need-returns-2
 returns-2 c =
     let written = c .before .before in
-    let tested = written .before .before .before in
-    let decoded = tested .before .before .before in
+    let done = written .before .before .before in
+    let decoded = done .before .before .before in
     let keeps = octets-keep _ _ _ _ _ (decoded .decode .ensures) (lent decoded) (as-many decoded) in
-    rw (written .octets .ensures) (rw (answer-done _ _ _ (tested .if2 .taken)) at keeps)
+    rw (written .octets .ensures) (rw (answer-done _ _ _ (done .if2 .taken)) at keeps)
 
 -- refused: the octets as they were lent
 returns-3 : tie.Need-returns-3
@@ -46,7 +46,6 @@ decode-alaw-spec =
     (tie.spec
     (λ c κs. search needs)
     returns
-    (λ c κs. search needs)
     (λ c. search needs)
     (λ c κs. search needs)
     (λ c. search needs)
