@@ -32,6 +32,13 @@ use Rattle.ends.specs.Demands.{encode-refuses, encode-alaw-refuses, deco
 unlike : (m n : ℕ) → ¬ (m ≡ n) → ¬ (pos m ≡ pos n)
 unlike m n h e = h (ap natAbs e)
 
+-- an ending that does not say complete
+not-complete : Option lpc.Ending → Type 0
+not-complete none = Unit {0}
+not-complete (some lpc.silent) = Unit {0}
+not-complete (some (lpc.stopped n)) = Unit {0}
+not-complete (some lpc.complete) = ⊥
+
 -- an ending that is no stop
 not-stopped : Option lpc.Ending → Type 0
 not-stopped none = Unit {0}
@@ -89,6 +96,7 @@ pub record Computed : Type 0 where
   pub ending : answers.encode home-coder pulses (zeros 76) .ending ≡ some lpc.complete
   pub oldest : answers.encode home-coder pulses (zeros 76) .state .dp at 0 ≡ pos 3808
   pub silence : answers.encode home-coder (zeros 160) (zeros 76) .codewords ≡ zero-frame
+  pub silent-ending : answers.encode home-coder (zeros 160) (zeros 76) .ending ≡ some lpc.silent
   pub decoded-oldest : answers.decode home-decoder first-frame (zeros 160) .state .drp at 0 ≡ pos 3808
   pub first-sample : answers.decode home-decoder first-frame (zeros 160) .samples at 0 ≡ pos 3584
   pub other-sample : answers.decode home-decoder second-frame (zeros 160) .samples at 0 ≡ pos 0
@@ -103,6 +111,7 @@ computed = record {
   ending = refl;
   oldest = refl;
   silence = refl;
+  silent-ending = refl;
   decoded-oldest = refl;
   first-sample = refl;
   other-sample = refl;
@@ -141,6 +150,11 @@ module _ (e : Encoder) (h : coder e ≡ home-coder) (a : Encoded) (w : List ℤ)
   unfolding first-frame zero-frame
   first-only z = unlike 3 0 (omega arith) (ap (λ c. c at 1) (sym (ap (drop 25) own) ∙ z))
 
+  -- sub-frame 1 coded again in the place of 2
+  pub first-again : ¬ (drop 25 w at 1 ≡ drop 8 w at 1)
+  unfolding first-frame
+  first-again z = unlike 3 0 (omega arith) (sym (ap (λ c. drop 25 c at 1) own) ∙ (z ∙ ap (λ c. drop 8 c at 1) own))
+
   -- an invented stop: the recursion is complete
   pub invented-stop : (n : ℕ) → ¬ (a .ending ≡ Ending-of.Stopped n)
   unfolding ending not-stopped
@@ -149,6 +163,15 @@ module _ (e : Encoder) (h : coder e ≡ home-coder) (a : Encoded) (w : List ℤ)
       = p .ending ∙ ap (λ c. answers.encode c pulses (zeros 76) .ending) h ∙ computed .ending
       in
       subst not-stopped (sym whole ∙ ap ending s) tt
+
+-- the ending dropped: silence answered as complete
+pub dropped-ending : (e : Encoder) → coder e ≡ home-coder → (a : Encoded) (w : List ℤ) → Encodes e (zeros 160) (zeros 76) a w → ¬ (a .ending ≡ Ending-of.Complete)
+unfolding ending not-complete
+dropped-ending e h a w p s =
+    let none-measured : ending (a .ending) ≡ some lpc.silent
+    = p .ending ∙ ap (λ c. answers.encode c (zeros 160) (zeros 76) .ending) h ∙ computed .silent-ending
+    in
+    subst not-complete (sym none-measured ∙ ap ending s) tt
 
 module _ (d : Decoder) (h : memory d ≡ home-decoder) (a : Decoded) (w : List ℤ) (p : Decodes d first-frame (zeros 160) a w) where
   -- the same samples for every frame
