@@ -1,12 +1,11 @@
 -- The loop fills the room with the samples, one for each octet; the table is copied once, before it.
 use Prim.Native.Nat.{ℕ, _-_, _≤_}
-use mathlib.Core.Path.{_≡_, ap₂, _∙_}
+use mathlib.Core.Path.{_≡_, ap, _∙_}
 use mathlib.Core.List.{List}
 use native.Mathlib.Omega.{arith}
 use lib.IntN.{ℤ, pos, _*ℤ_}
 use lib.ListN.{length, getD, length-set}
-use mir.Syntax.{w8, w16}
-use mir.Val.{Fits}
+use mir.Syntax.{w16}
 use borrow.Author.Needs.{needs, sfits-of}
 use Rattle.integers.specs.Halves.{mem}
 use Rattle.integers.specs.Ranges.{back, res}
@@ -32,9 +31,9 @@ entry c =
     let turn = placed .before .before .before in
     let tabled = turn .before in
     let octets = tabled .before .before .args .octets .now in
-    let octet : Fits w8 (getD octets (turn .loop .i) 0) = search needs in
-    ap₂ (λ (t : List ℤ) (k : ℕ). getD t k (pos 0)) (tabled .table .ensures) (placed .place .ensures .0)
-    ∙ tab-at-zero expanded 256 (getD octets (turn .loop .i) 0) (pos 0) (octet .fits)
+    let code : placed .place .result ≡ getD octets (turn .loop .i) 0 = placed .place .ensures .0 in
+    ap (λ (t : List ℤ). getD t (placed .place .result) (pos 0)) (tabled .table .ensures)
+    ∙ (tab-at-zero expanded 256 (placed .place .result) (pos 0) (placed .place .ensures .1) ∙ ap expanded code)
 
 sample-requires : tie.Need-sample-requires Inv-loop μ-loop
 sample-requires c κs =
