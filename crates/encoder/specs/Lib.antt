@@ -1,5 +1,4 @@
 pub mod Promise
-pub mod Marks
 pub mod Soundness
 pub mod Subframes
 pub mod Whole

@@ -3,7 +3,7 @@
 use analysis::Filters;
 use reflection::Ending as Ended;
 ghost use mathlib.Core.Path.{_≡_};
-ghost use mathlib.Core.Bool.{true};
+ghost use mathlib.Core.Bool.{true, cond};
 ghost use mathlib.Core.Option.{some};
 ghost use mathlib.Core.List.{_++_};
 ghost use Prim.Native.Nat.{_*_, _≤_};
@@ -18,7 +18,6 @@ ghost use Rattle.reflection.specs.Promise.{ended};
 ghost use Rattle.subframe.specs.Whole.{added};
 ghost use Rattle.encoder.specs.Promise.{coder, ending, mark, marks, Encodes, refused};
 ghost use Rattle.lists.specs.Parts.{put};
-ghost use Rattle.encoder.specs.Marks.{mark-by};
 ghost use Rattle.encoder.specs.Subframes.{own, before, four-added, four-words, four-marks};
 ghost use Rattle.encoder.specs.Whole.{coded-marks};
 
@@ -85,16 +84,11 @@ fn sound(e: Encoder) -> bool
     between(-16384, 16380, z1) && between(centre - 536740337, centre + 536871409, e.l_z2)
 }
 
-// 01's lag mark.
-fn marked(nc: i16, bc: i16) -> Mark
-    ensures { λ r. ⌜ mark r ≡ some (mark-by nc bc) ⌝ }
+// 02, W-203: a lag is found when some lag had a positive sum.
+fn marked(positive: bool) -> Mark
+    ensures { λ r. ⌜ mark r ≡ some (cond positive house.found house.rule) ⌝ }
 {
-    if nc == 40 {
-        if bc == 0 {
-            return Mark::Rule;
-        }
-    }
-    Mark::Found
+    if positive { Mark::Found } else { Mark::Rule }
 }
 
 // The recursion's ending, as encode answers it.
@@ -116,8 +110,8 @@ fn sub_frame(n: usize, d: &[i16], dp: &mut [i16], c: &mut [i16]) -> Mark
     ensures history { λ r. ⌜ now (dp .exit) ≡ put (40 * n) 160 (now (dp .entry)) (before n (now (dp .entry)) ++ added (before n (now (dp .entry))) (own n (now (d .entry)))) ⌝ }
 {
     let a = 40 * n;
-    subframe::sub_coded(&d[a..a + 40], &mut dp[a..a + 160], c);
-    marked(c[0], c[1])
+    let search = subframe::sub_coded(&d[a..a + 40], &mut dp[a..a + 160], c);
+    marked(search.positive)
 }
 
 // The four sub-frames, each after what stands in dp by then; each is lent the 17 codewords that it fills.

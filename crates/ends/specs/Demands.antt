@@ -1,14 +1,15 @@
 -- Demands 1 and 2, of any outcome that keeps a call's promise; demand 3 is `together`. That every call ends is no statement: the check itself refuses a function that might not.
-use Prim.Native.Nat.{ℕ, suc}
-use mathlib.Core.Path.{_≡_, sym, _∙_}
-use mathlib.Core.Option.{some}
+use Prim.Native.Nat.{ℕ, suc, _<_}
+use mathlib.Core.Path.{_≡_, sym, ap, _∙_}
+use mathlib.Core.Option.{none, some}
 use mathlib.Core.List.{List, map}
 use lib.Dec.{eqb}
 use lib.IntN.{ℤ}
-use lib.ListN.{length}
+use lib.ListN.{length, getD}
 use Rattle.lists.specs.Every.{every}
-use Rattle.standard.specs.Frame.{words, received}
-use Rattle.standard.specs.Coder.{coded, frame}
+use Rattle.lists.specs.Tab.{map-at}
+use Rattle.standard.specs.Frame.{Subframe, words, received}
+use Rattle.standard.specs.Coder.{Coder, Subcoded, sub-coded, coded, frame}
 use Rattle.standard.specs.Decoder as standard
 use Rattle.standard.specs.Packed.{packed, unpacked, spare}
 use Rattle.standard.specs.Alaw.{alaw-samples, alaw-octets}
@@ -17,8 +18,13 @@ use Rattle.standard.specs.House as house
 use Rattle.refusals.specs.Rows.{Exactly, exactly-as, answer-done}
 use Rattle.refusals.specs.Calls.{encode-exactly, encode-done, decode-exactly, decode-done, decode-alaw-exactly, decode-alaw-number, decode-alaw-done}
 use Rattle.refusals.specs.Calls.{pack-exactly, pack-number, pack-done, unpack-exactly, unpack-number, unpack-done}
+use Rattle.lengths.specs.Frames.{coded-subframes}
+use Rattle.fields.specs.Valid.{received-coded}
+use Rattle.fields.specs.Marks.{Told, told}
+use Rattle.limits.specs.Signals.{part, history, subframe-is}
 use Rattle.alaw.specs.Facts.{samples-length}
 use Rattle.encoder.specs.declared.Encoder.{Encoder}
+use Rattle.encoder.specs.declared.Marks.{Marks}
 use Rattle.encoder.specs.declared.Encoded.{Encoded}
 use Rattle.encoder.specs.Promise.{coder, ending, marks, Encodes}
 use Rattle.encoder.specs.Promise as encoder
@@ -31,6 +37,21 @@ use Rattle.decoder.specs.Calls as decoder-calls
 use Rattle.packing.specs.Promise.{Packs, packing-refused, Unpacks, unpacking-refused}
 
 -- ---- encode
+
+-- 02, W-203: sub-frame i, from 0 on, of a frame has a mark, which tells what was found in the history before it over its own 40 samples of d,
+-- and of its codewords as they are received
+abbrev pub Marked : Coder → List ℤ → Marks → List ℤ → ℕ → Type 0
+Marked c samples ms left i =
+    (m : house.Mark) × (getD (marks ms) i none ≡ some m)
+    × ((z : Subframe) → Told m (history c samples i) (part c samples i) (getD (received left .subframes) i z))
+
+-- what is read off each sub-frame of a frame, read at sub-frame i
+read-at : (c : Coder) (samples : List ℤ) (i : ℕ) → i < 4 → {B : Type 0} (g : Subcoded → B) (z : B)
+    → getD (map g (coded c samples .1 .subframes)) i z ≡ g (sub-coded (history c samples i) (part c samples i))
+read-at c samples i l g z =
+    let s = sub-coded (history c samples i) (part c samples i) in
+    let n : i < length (coded c samples .1 .subframes) = rw (coded-subframes c samples) l in
+    map-at g (coded c samples .1 .subframes) i s z n ∙ ap g (subframe-is c samples i s l)
 
 module _ (e : Encoder) (samples lent : List ℤ) (a : Encoded) (left : List ℤ) (p : Encodes e samples lent a left) where
   -- demand 1: 1, 2 and 3 exactly when 01 says, the lowest of several, and 0 exactly when nothing is wrong
@@ -49,6 +70,20 @@ module _ (e : Encoder) (samples lent : List ℤ) (a : Encoded) (left : List ℤ)
       let d = encode-done (coder e) samples lent (sym (encoder-calls.number-is e samples lent a left p) ∙ h) in
       (rw d at (p .state), rw d at (p .codewords), rw d at (p .ending), rw d at (p .marks))
 
+  -- each mark tells what was measured
+  pub encode-marks : a .number ≡ 0 → (i : ℕ) → i < 4 → Marked (coder e) samples (a .marks) left i
+  unfolding frame
+  encode-marks h i l =
+      let dp = history (coder e) samples i in
+      let d = part (coder e) samples i in
+      let (_, w, _, ms) = encode-equals h in
+      let frames : received left ≡ frame (coded (coder e) samples .1) = ap received w ∙ received-coded (coder e) samples in
+      let sent : (z : Subframe) → getD (received left .subframes) i z ≡ sub-coded dp d .codes
+      = λ z. ap (λ f. getD (f .subframes) i z) frames ∙ read-at (coder e) samples i l (λ s. s .codes) z
+      in
+      let mark = ap (λ x. getD x i none) ms ∙ read-at (coder e) samples i l (λ s. some (house.mark s)) none in
+      (house.mark (sub-coded dp d), mark, λ z. rw (sent z) (told dp d))
+
 -- encode_alaw: all of this over the samples that the octets stand for; the first number counts octets
 module _ (e : Encoder) (octets : List ℕ) (lent : List ℤ) (a : Encoded) (left : List ℤ) (p : Encodes e (alaw-samples octets) lent a left) where
   pub encode-alaw-refuses : Exactly (a .number) 160 76 1 2 3 octets lent (sound-coder (coder e))
@@ -62,6 +97,9 @@ module _ (e : Encoder) (octets : List ℕ) (lent : List ℤ) (a : Encoded) (left
       (coder (a .state) ≡ t .0) × (left ≡ words (frame (t .1)))
       × (ending (a .ending) ≡ some (t .1 .ending)) × (marks (a .marks) ≡ map (λ s. some (house.mark s)) (t .1 .subframes))
   encode-alaw-equals = encode-equals e (alaw-samples octets) lent a left p
+
+  pub encode-alaw-marks : a .number ≡ 0 → (i : ℕ) → i < 4 → Marked (coder e) (alaw-samples octets) (a .marks) left i
+  encode-alaw-marks = encode-marks e (alaw-samples octets) lent a left p
 
 -- ---- decode
 

@@ -1,15 +1,16 @@
 -- 01, 'What counts as shown' (c): useless versions, and that none of them keeps the promises.
-use Prim.Native.Nat.{ℕ}
+use Prim.Native.Nat.{ℕ, zero, suc}
 use native.Mathlib.Omega.{arith}
 use mathlib.Core.Path.{_≡_, refl, sym, ap, subst, _∙_}
 use mathlib.Core.Bool.{Bool, true}
 use mathlib.Core.Option.{Option, none, some}
-use mathlib.Core.List.{List}
+use mathlib.Core.List.{List, _∷_}
 use lib.IntN.{ℤ, pos, natAbs}
-use lib.ListN.{length, getD, drop}
+use lib.ListN.{length, getD, drop, replicate}
 use Rattle.standard.specs.Tables.{_at_}
 use Rattle.standard.specs.Lpc as lpc
 use Rattle.standard.specs.Alaw.{alaw-samples}
+use Rattle.standard.specs.House as house
 use Rattle.standard.specs.House.{home-coder, home-decoder, sound-coder, sound-decoder}
 use Rattle.standard.specs.Answers as answers
 use Rattle.standard.specs.Opened.{opened}
@@ -18,8 +19,9 @@ use Rattle.refusals.specs.Rows.{Exactly}
 use Rattle.refusals.specs.Calls.{encode-exactly, decode-exactly}
 use Rattle.encoder.specs.declared.Encoder.{Encoder}
 use Rattle.encoder.specs.declared.Ending.the-variants as Ending-of
+use Rattle.encoder.specs.declared.Mark.the-variants as Mark-of
 use Rattle.encoder.specs.declared.Encoded.{Encoded}
-use Rattle.encoder.specs.Promise.{coder, ending, Encodes}
+use Rattle.encoder.specs.Promise.{coder, ending, mark, marks, Encodes}
 use Rattle.encoder.specs.Calls as encoder
 use Rattle.decoder.specs.declared.Decoder.{Decoder}
 use Rattle.decoder.specs.declared.Decoded.{Decoded}
@@ -45,6 +47,24 @@ not-stopped none = Unit {0}
 not-stopped (some lpc.silent) = Unit {0}
 not-stopped (some (lpc.stopped n)) = ⊥
 not-stopped (some lpc.complete) = Unit {0}
+
+-- a mark that does not say rule, and one that does not say found
+not-rule : Option house.Mark → Type 0
+not-rule none = Unit {0}
+not-rule (some house.rule) = ⊥
+not-rule (some house.found) = Unit {0}
+
+not-found : Option house.Mark → Type 0
+not-found none = Unit {0}
+not-found (some house.rule) = Unit {0}
+not-found (some house.found) = ⊥
+
+-- in a row of rules none says found
+all-rule : (n i : ℕ) → not-found (getD (replicate n (some house.rule)) i none)
+unfolding not-found
+all-rule zero i = tt
+all-rule (suc n) zero = tt
+all-rule (suc n) (suc i) = all-rule n i
 
 -- ---- refusing all: what 01 does not refuse is done
 
@@ -94,9 +114,11 @@ codewords-first-heard-octets d codewords lent a left h n p =
 pub record Computed : Type 0 where
   pub frame : answers.encode home-coder pulses (zeros 76) .codewords ≡ first-frame
   pub ending : answers.encode home-coder pulses (zeros 76) .ending ≡ some lpc.complete
+  pub marks : answers.encode home-coder pulses (zeros 76) .marks ≡ some house.rule ∷ replicate 3 (some house.found)
   pub oldest : answers.encode home-coder pulses (zeros 76) .state .dp at 0 ≡ pos 3808
   pub silence : answers.encode home-coder (zeros 160) (zeros 76) .codewords ≡ zero-frame
   pub silent-ending : answers.encode home-coder (zeros 160) (zeros 76) .ending ≡ some lpc.silent
+  pub silent-marks : answers.encode home-coder (zeros 160) (zeros 76) .marks ≡ replicate 4 (some house.rule)
   pub decoded-oldest : answers.decode home-decoder first-frame (zeros 160) .state .drp at 0 ≡ pos 3808
   pub first-sample : answers.decode home-decoder first-frame (zeros 160) .samples at 0 ≡ pos 3584
   pub other-sample : answers.decode home-decoder second-frame (zeros 160) .samples at 0 ≡ pos 0
@@ -109,9 +131,11 @@ unfolding opened pulses first-frame second-frame zero-frame
 computed = record {
   frame = refl;
   ending = refl;
+  marks = refl;
   oldest = refl;
   silence = refl;
   silent-ending = refl;
+  silent-marks = refl;
   decoded-oldest = refl;
   first-sample = refl;
   other-sample = refl;
@@ -163,6 +187,25 @@ module _ (e : Encoder) (h : coder e ≡ home-coder) (a : Encoded) (w : List ℤ)
       = p .ending ∙ ap (λ c. answers.encode c pulses (zeros 76) .ending) h ∙ computed .ending
       in
       subst not-stopped (sym whole ∙ ap ending s) tt
+
+  -- every lag marked "rule": that of the second pulse is found
+  pub dropped-found : ¬ (a .marks .second ≡ Mark-of.Rule)
+  unfolding mark marks not-rule
+  dropped-found s =
+      let measured : mark (a .marks .second) ≡ some house.found
+      = ap (λ ms. getD ms 1 none) (p .marks ∙ ap (λ c. answers.encode c pulses (zeros 76) .marks) h ∙ computed .marks)
+      in
+      subst not-rule (sym measured ∙ ap mark s) tt
+
+-- every lag marked "found": in silence none is
+pub invented-found : (e : Encoder) → coder e ≡ home-coder → (a : Encoded) (w : List ℤ) → Encodes e (zeros 160) (zeros 76) a w
+    → (i : ℕ) → ¬ (getD (marks (a .marks)) i none ≡ some house.found)
+unfolding not-found
+invented-found e h a w p i s =
+    let none-measured : marks (a .marks) ≡ replicate 4 (some house.rule)
+    = p .marks ∙ ap (λ c. answers.encode c (zeros 160) (zeros 76) .marks) h ∙ computed .silent-marks
+    in
+    subst not-found (ap (λ ms. getD ms i none) (sym none-measured) ∙ s) (all-rule 4 i)
 
 -- the ending dropped: silence answered as complete
 pub dropped-ending : (e : Encoder) → coder e ≡ home-coder → (a : Encoded) (w : List ℤ) → Encodes e (zeros 160) (zeros 76) a w → ¬ (a .ending ≡ Ending-of.Complete)

@@ -1,6 +1,7 @@
 pub mod Fit
 pub mod Ratios
 pub mod Gains
+pub mod Marks
 pub mod Amplitudes
 pub mod Pulses
 pub mod Fields

@@ -1,6 +1,6 @@
 -- 01, 'Easy to get wrong': the cases that tell the wrong readings from the right one. The zero frame (ZeroFrame) and the rows worked by
 -- hand (Worked) tell the others.
-use Prim.Native.Nat.{ℕ, _-_}
+use Prim.Native.Nat.{ℕ}
 use mathlib.Core.Path.{_≡_, refl}
 use mathlib.Core.List.{List, [], _∷_, _++_}
 use lib.IntN.{ℤ, pos}
@@ -8,41 +8,28 @@ use lib.ListN.{replicate}
 use Rattle.standard.specs.Lpc.{ending, stopped}
 use Rattle.standard.specs.LongTerm.{lag-search, Nc}
 use Rattle.standard.specs.Rpe.{Mc}
-use Rattle.standard.specs.Coder.{Subcoded}
-use Rattle.standard.specs.House.{mark, rule, found}
 use Rattle.standard.specs.Worked.{lags-used}
 use Rattle.standard.specs.Opened.{opened}
 
-abbrev zeros : ℕ → List ℤ
+abbrev pub zeros : ℕ → List ℤ
 zeros n = replicate n (pos 0)
 
 -- a pulse at the start of 40 samples; and a history with one at lag 50 and one at lag 90
-abbrev pub pulse : List ℤ
-pulse = pos 1000 ∷ zeros 39
+abbrev pub pulse : ℤ → List ℤ
+pulse x = x ∷ zeros 39
 
 abbrev pub two-pulses : List ℤ
-two-pulses = zeros 30 ++ (pulse ++ (pos 1000 ∷ zeros 49))
-
--- a sub-frame with a lag and a gain code
-abbrev pub lag-and-gain : ℕ → ℕ → Subcoded
-lag-and-gain lag gain =
-    record {
-      codes = record { Nc = pos lag; bc = pos gain; Mc = pos 0; xmaxc = pos 0; xMc = zeros 13 };
-      search = record { at = lag - 40; sum = pos 1 };
-    }
+two-pulses = zeros 30 ++ (pulse (pos 1000) ++ (pos 1000 ∷ zeros 49))
 
 pub record Easy : Type 0 where
   -- lags 50 and 90 tie
-  pub smallest-lag : Nc (lag-search pulse two-pulses) ≡ 50
+  pub smallest-lag : Nc (lag-search (pulse (pos 1000)) two-pulses) ≡ 50
   -- grids 1 and 2 tie
   pub first-grid : Mc (pos 0 ∷ pos 100 ∷ pos 100 ∷ zeros 37) ≡ 1
   -- at P[0] = abs(P[1]) the recursion goes on
   pub equality-goes-on : ending (pos 1073741824 ∷ pos 1073741824 ∷ zeros 7) ≡ stopped 2
   -- a bad lag is replaced by the remembered one
   pub remembered : lags-used (pos 120 ∷ pos 121 ∷ pos 39 ∷ []) ≡ pos 120 ∷ pos 120 ∷ pos 120 ∷ []
-  pub rule-mark : mark (lag-and-gain 40 0) ≡ rule
-  pub found-by-lag : mark (lag-and-gain 41 0) ≡ found
-  pub found-by-gain : mark (lag-and-gain 40 1) ≡ found
 
 pub easy : Easy
 unfolding opened
@@ -51,7 +38,4 @@ easy = record {
   first-grid = refl;
   equality-goes-on = refl;
   remembered = refl;
-  rule-mark = refl;
-  found-by-lag = refl;
-  found-by-gain = refl;
 }

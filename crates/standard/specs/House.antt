@@ -1,12 +1,13 @@
--- 01's own rules: home, soundness, the lag mark, the refusal numbers.
+-- The house's own rules: home, soundness and the refusal numbers as 01 has them, the lag mark as 02 has it.
 use Prim.Native.Nat.{ℕ, _^_}
 use mathlib.Core.Bool.{Bool, false, cond, not, _&&_}
 use mathlib.Core.List.{List, [], _∷_, zipWith}
-use lib.IntN.{ℤ, pos, negsuc, _-ℤ_, _*ℤ_, natAbs}
+use lib.IntN.{ℤ, pos, negsuc, _-ℤ_, _*ℤ_}
 use lib.ListN.{length, replicate}
+use lib.Signed.{ltZ}
 use lib.Dec.{eqb, ltb}
 use Rattle.lists.specs.Every.{every}
-use Rattle.standard.specs.Arithmetic.{is-zero, within}
+use Rattle.standard.specs.Arithmetic.{within}
 use Rattle.standard.specs.Tables.{neg}
 use Rattle.standard.specs.Frame.{widths}
 use Rattle.standard.specs.LongTerm.{is-lag}
@@ -39,15 +40,16 @@ sound-coder c =
 unfoldable pub sound-decoder : Decoder → Bool
 sound-decoder m = is-lag (m .nrp)
 
--- ---- 'The steps': the lag mark
+-- ---- the lag mark (02, W-203)
 
 pub data Mark : Type 0 where
   rule : Mark
   found : Mark
 
--- "rule" when the lag is 40 with gain code 0, else "found"
+-- "found" exactly when some lag from 40 to 120 has a positive sum before the rescaling, and "rule" otherwise. The sum of the search is the
+-- greatest of these, or 0 where none is positive
 unfoldable pub mark : Subcoded → Mark
-mark s = cond (eqb (natAbs (s .codes .Nc)) 40 && is-zero (s .codes .bc)) rule found
+mark s = cond (ltZ (pos 0) (s .search .sum)) found rule
 
 -- ---- 'Refusal numbers': the table. A row is what is wrong, and its number
 

@@ -18,6 +18,7 @@ pub mod Opened
 pub mod Worked
 pub mod ZeroFrame
 pub mod Easy
+pub mod Forty
 pub mod Edges
 pub mod Refused
 pub mod Companded

@@ -20,8 +20,8 @@ pub e32-speechlike-10 : encode (record { z1 = neg 24; L-z2 = neg 760940; mp = ne
 unfolding opened
 e32-speechlike-10 = refl
 
--- loud; two lags by rule
-pub e13-lowbits-34 : encode (record { z1 = pos 8696; L-z2 = pos 171361098; mp = pos 5230; LARpp = neg 25394 ∷ pos 0 ∷ pos 0 ∷ pos 0 ∷ neg 220 ∷ pos 546 ∷ neg 656 ∷ pos 436 ∷ []; u = pos 728 ∷ pos 8 ∷ pos 7 ∷ pos 7 ∷ pos 9 ∷ pos 8 ∷ pos 6 ∷ pos 9 ∷ []; dp = pos 7 ∷ pos 12 ∷ pos 0 ∷ pos 7 ∷ pos 12 ∷ pos 0 ∷ pos 7 ∷ pos 12 ∷ pos 0 ∷ pos 7 ∷ pos 12 ∷ pos 0 ∷ pos 7 ∷ pos 12 ∷ pos 0 ∷ pos 7 ∷ pos 12 ∷ pos 0 ∷ pos 7 ∷ pos 12 ∷ pos 0 ∷ pos 7 ∷ pos 12 ∷ pos 0 ∷ pos 7 ∷ pos 12 ∷ pos 0 ∷ pos 7 ∷ pos 16 ∷ neg 1 ∷ pos 2 ∷ pos 16 ∷ pos 0 ∷ pos 4 ∷ pos 12 ∷ pos 0 ∷ pos 9 ∷ pos 12 ∷ pos 0 ∷ pos 8 ∷ pos 11 ∷ pos 4 ∷ pos 0 ∷ pos 11 ∷ pos 4 ∷ pos 0 ∷ pos 14 ∷ pos 4 ∷ pos 0 ∷ pos 14 ∷ pos 4 ∷ pos 0 ∷ pos 14 ∷ pos 4 ∷ pos 0 ∷ pos 14 ∷ pos 4 ∷ pos 0 ∷ pos 4 ∷ pos 15 ∷ pos 0 ∷ neg 4 ∷ pos 20 ∷ pos 7 ∷ neg 4 ∷ pos 12 ∷ pos 7 ∷ pos 4 ∷ pos 12 ∷ pos 7 ∷ pos 4 ∷ pos 12 ∷ pos 7 ∷ pos 4 ∷ pos 12 ∷ pos 7 ∷ pos 4 ∷ pos 12 ∷ pos 7 ∷ pos 0 ∷ pos 0 ∷ pos 16 ∷ pos 7 ∷ pos 0 ∷ pos 8 ∷ pos 7 ∷ pos 0 ∷ pos 8 ∷ pos 7 ∷ pos 0 ∷ pos 8 ∷ pos 7 ∷ pos 0 ∷ pos 8 ∷ pos 7 ∷ pos 0 ∷ pos 8 ∷ pos 7 ∷ pos 0 ∷ pos 8 ∷ pos 7 ∷ pos 0 ∷ pos 8 ∷ pos 7 ∷ pos 0 ∷ pos 8 ∷ pos 7 ∷ pos 0 ∷ pos 8 ∷ pos 7 ∷ pos 0 ∷ pos 8 ∷ pos 7 ∷ pos 0 ∷ pos 8 ∷ pos 7 ∷ pos 4 ∷ pos 7 ∷ pos 7 ∷ pos 12 ∷ [] }) (pos 17392 ∷ pos 17392 ∷ pos 30608 ∷ pos 30608 ∷ pos 30608 ∷ pos 30608 ∷ pos 30608 ∷ pos 30608 ∷ pos 30608 ∷ pos 30608 ∷ pos 30608 ∷ pos 30608 ∷ pos 30608 ∷ pos 30608 ∷ pos 30608 ∷ pos 30608 ∷ pos 30608 ∷ pos 30608 ∷ pos 30608 ∷ pos 30608 ∷ pos 30608 ∷ pos 30608 ∷ pos 30608 ∷ pos 30608 ∷ pos 30608 ∷ pos 30608 ∷ pos 30608 ∷ pos 30608 ∷ pos 30608 ∷ pos 30608 ∷ pos 30608 ∷ pos 30608 ∷ pos 30608 ∷ pos 30608 ∷ pos 30608 ∷ pos 30608 ∷ pos 30608 ∷ pos 30608 ∷ pos 30608 ∷ pos 30608 ∷ pos 30608 ∷ pos 30608 ∷ pos 30608 ∷ pos 30608 ∷ pos 30608 ∷ pos 30608 ∷ pos 30608 ∷ pos 30608 ∷ pos 30608 ∷ pos 30608 ∷ pos 30608 ∷ pos 30608 ∷ pos 30608 ∷ pos 30608 ∷ pos 30608 ∷ pos 30608 ∷ pos 30608 ∷ pos 30608 ∷ pos 30608 ∷ pos 30608 ∷ pos 30608 ∷ pos 30608 ∷ pos 30608 ∷ pos 30608 ∷ pos 30608 ∷ pos 30608 ∷ pos 30608 ∷ pos 30608 ∷ pos 30608 ∷ pos 30608 ∷ pos 30608 ∷ pos 30608 ∷ pos 30608 ∷ pos 30608 ∷ pos 30608 ∷ pos 30608 ∷ pos 30608 ∷ pos 30608 ∷ pos 30608 ∷ pos 30608 ∷ pos 30608 ∷ pos 30608 ∷ pos 30608 ∷ pos 30608 ∷ pos 30608 ∷ pos 30608 ∷ pos 30608 ∷ pos 30608 ∷ pos 30608 ∷ pos 30608 ∷ pos 30608 ∷ pos 30608 ∷ pos 30608 ∷ pos 30608 ∷ pos 30608 ∷ pos 30608 ∷ pos 30608 ∷ pos 30608 ∷ pos 30608 ∷ pos 30608 ∷ pos 30608 ∷ neg 30472 ∷ neg 30472 ∷ neg 30472 ∷ neg 30472 ∷ neg 30472 ∷ neg 30472 ∷ neg 30472 ∷ neg 30472 ∷ neg 30472 ∷ neg 30472 ∷ neg 30472 ∷ neg 30472 ∷ neg 30472 ∷ neg 30472 ∷ neg 30472 ∷ neg 30472 ∷ neg 30472 ∷ neg 30472 ∷ neg 30472 ∷ neg 30472 ∷ neg 30472 ∷ neg 30472 ∷ neg 30472 ∷ neg 30472 ∷ neg 30472 ∷ neg 30472 ∷ neg 30472 ∷ neg 30472 ∷ neg 30472 ∷ neg 30472 ∷ neg 30472 ∷ neg 30472 ∷ neg 30472 ∷ neg 30472 ∷ neg 30472 ∷ neg 30472 ∷ neg 30472 ∷ neg 30472 ∷ neg 30472 ∷ neg 30472 ∷ neg 30472 ∷ neg 30472 ∷ neg 30472 ∷ neg 30472 ∷ neg 30472 ∷ neg 30472 ∷ neg 30472 ∷ neg 30472 ∷ neg 30472 ∷ neg 30472 ∷ neg 30472 ∷ neg 30472 ∷ neg 30472 ∷ neg 30472 ∷ neg 30472 ∷ neg 30472 ∷ neg 30472 ∷ neg 30472 ∷ neg 30472 ∷ []) (replicate 76 (pos 0)) ≡ record { number = 0; state = record { z1 = neg 15236; L-z2 = neg 613231102; mp = neg 18714; LARpp = neg 7372 ∷ neg 4916 ∷ neg 3276 ∷ neg 2458 ∷ neg 2624 ∷ neg 1638 ∷ neg 656 ∷ neg 1422 ∷ []; u = neg 2608 ∷ neg 1435 ∷ neg 1004 ∷ neg 803 ∷ neg 683 ∷ neg 590 ∷ neg 529 ∷ neg 504 ∷ []; dp = pos 0 ∷ pos 1322 ∷ pos 2 ∷ pos 0 ∷ pos 874 ∷ pos 2 ∷ pos 0 ∷ pos 765 ∷ pos 1 ∷ pos 0 ∷ pos 766 ∷ pos 1 ∷ pos 0 ∷ pos 766 ∷ pos 1 ∷ pos 0 ∷ pos 765 ∷ pos 1 ∷ pos 0 ∷ pos 765 ∷ pos 1 ∷ pos 0 ∷ pos 765 ∷ pos 1 ∷ pos 0 ∷ pos 765 ∷ pos 1 ∷ pos 0 ∷ pos 765 ∷ pos 1 ∷ pos 0 ∷ pos 765 ∷ pos 0 ∷ pos 2 ∷ pos 765 ∷ pos 0 ∷ pos 2 ∷ pos 766 ∷ pos 0 ∷ pos 1 ∷ pos 7 ∷ pos 0 ∷ pos 8 ∷ pos 3591 ∷ pos 0 ∷ pos 8 ∷ pos 3591 ∷ pos 0 ∷ pos 8 ∷ pos 3591 ∷ pos 0 ∷ pos 8 ∷ pos 3591 ∷ pos 4 ∷ pos 7 ∷ pos 3591 ∷ pos 12 ∷ pos 0 ∷ neg 441 ∷ pos 16 ∷ neg 1 ∷ neg 26429 ∷ pos 16 ∷ pos 0 ∷ pos 4036 ∷ pos 12 ∷ pos 0 ∷ pos 4041 ∷ pos 12 ∷ pos 0 ∷ neg 3128 ∷ pos 11 ∷ pos 4 ∷ neg 3136 ∷ pos 11 ∷ pos 4 ∷ neg 3136 ∷ pos 14 ∷ pos 4 ∷ neg 3136 ∷ neg 671 ∷ pos 0 ∷ pos 1 ∷ neg 1209 ∷ pos 0 ∷ pos 1 ∷ neg 1209 ∷ pos 0 ∷ pos 1 ∷ neg 1209 ∷ pos 0 ∷ pos 1 ∷ neg 1209 ∷ pos 0 ∷ pos 1 ∷ neg 1209 ∷ pos 1 ∷ pos 0 ∷ neg 1164 ∷ pos 2 ∷ pos 0 ∷ neg 1075 ∷ pos 2 ∷ pos 0 ∷ neg 1164 ∷ pos 1 ∷ pos 0 ∷ neg 1164 ∷ pos 1 ∷ pos 0 ∷ neg 1433 ∷ pos 1 ∷ pos 0 ∷ neg 1434 ∷ pos 1 ∷ pos 0 ∷ neg 1434 ∷ pos 1 ∷ pos 0 ∷ neg 314 ∷ [] }; ending = some complete; marks = some found ∷ some rule ∷ some found ∷ some rule ∷ []; codewords = pos 23 ∷ pos 26 ∷ pos 16 ∷ pos 8 ∷ pos 6 ∷ pos 3 ∷ pos 3 ∷ pos 1 ∷ pos 94 ∷ pos 3 ∷ pos 1 ∷ pos 37 ∷ pos 7 ∷ pos 2 ∷ pos 4 ∷ pos 4 ∷ pos 4 ∷ pos 4 ∷ pos 4 ∷ pos 4 ∷ pos 4 ∷ pos 4 ∷ pos 4 ∷ pos 4 ∷ pos 4 ∷ pos 40 ∷ pos 0 ∷ pos 1 ∷ pos 24 ∷ pos 7 ∷ pos 7 ∷ pos 6 ∷ pos 6 ∷ pos 6 ∷ pos 6 ∷ pos 6 ∷ pos 6 ∷ pos 6 ∷ pos 6 ∷ pos 6 ∷ pos 6 ∷ pos 6 ∷ pos 97 ∷ pos 3 ∷ pos 3 ∷ pos 61 ∷ pos 4 ∷ pos 4 ∷ pos 4 ∷ pos 4 ∷ pos 4 ∷ pos 3 ∷ pos 0 ∷ pos 4 ∷ pos 4 ∷ pos 3 ∷ pos 3 ∷ pos 3 ∷ pos 3 ∷ pos 40 ∷ pos 0 ∷ pos 0 ∷ pos 29 ∷ pos 2 ∷ pos 0 ∷ pos 0 ∷ pos 0 ∷ pos 0 ∷ pos 0 ∷ pos 1 ∷ pos 7 ∷ pos 0 ∷ pos 0 ∷ pos 1 ∷ pos 1 ∷ pos 1 ∷ [] }
+-- loud; two lags of 40 are found with gain code 0
+pub e13-lowbits-34 : encode (record { z1 = pos 8696; L-z2 = pos 171361098; mp = pos 5230; LARpp = neg 25394 ∷ pos 0 ∷ pos 0 ∷ pos 0 ∷ neg 220 ∷ pos 546 ∷ neg 656 ∷ pos 436 ∷ []; u = pos 728 ∷ pos 8 ∷ pos 7 ∷ pos 7 ∷ pos 9 ∷ pos 8 ∷ pos 6 ∷ pos 9 ∷ []; dp = pos 7 ∷ pos 12 ∷ pos 0 ∷ pos 7 ∷ pos 12 ∷ pos 0 ∷ pos 7 ∷ pos 12 ∷ pos 0 ∷ pos 7 ∷ pos 12 ∷ pos 0 ∷ pos 7 ∷ pos 12 ∷ pos 0 ∷ pos 7 ∷ pos 12 ∷ pos 0 ∷ pos 7 ∷ pos 12 ∷ pos 0 ∷ pos 7 ∷ pos 12 ∷ pos 0 ∷ pos 7 ∷ pos 12 ∷ pos 0 ∷ pos 7 ∷ pos 16 ∷ neg 1 ∷ pos 2 ∷ pos 16 ∷ pos 0 ∷ pos 4 ∷ pos 12 ∷ pos 0 ∷ pos 9 ∷ pos 12 ∷ pos 0 ∷ pos 8 ∷ pos 11 ∷ pos 4 ∷ pos 0 ∷ pos 11 ∷ pos 4 ∷ pos 0 ∷ pos 14 ∷ pos 4 ∷ pos 0 ∷ pos 14 ∷ pos 4 ∷ pos 0 ∷ pos 14 ∷ pos 4 ∷ pos 0 ∷ pos 14 ∷ pos 4 ∷ pos 0 ∷ pos 4 ∷ pos 15 ∷ pos 0 ∷ neg 4 ∷ pos 20 ∷ pos 7 ∷ neg 4 ∷ pos 12 ∷ pos 7 ∷ pos 4 ∷ pos 12 ∷ pos 7 ∷ pos 4 ∷ pos 12 ∷ pos 7 ∷ pos 4 ∷ pos 12 ∷ pos 7 ∷ pos 4 ∷ pos 12 ∷ pos 7 ∷ pos 0 ∷ pos 0 ∷ pos 16 ∷ pos 7 ∷ pos 0 ∷ pos 8 ∷ pos 7 ∷ pos 0 ∷ pos 8 ∷ pos 7 ∷ pos 0 ∷ pos 8 ∷ pos 7 ∷ pos 0 ∷ pos 8 ∷ pos 7 ∷ pos 0 ∷ pos 8 ∷ pos 7 ∷ pos 0 ∷ pos 8 ∷ pos 7 ∷ pos 0 ∷ pos 8 ∷ pos 7 ∷ pos 0 ∷ pos 8 ∷ pos 7 ∷ pos 0 ∷ pos 8 ∷ pos 7 ∷ pos 0 ∷ pos 8 ∷ pos 7 ∷ pos 0 ∷ pos 8 ∷ pos 7 ∷ pos 4 ∷ pos 7 ∷ pos 7 ∷ pos 12 ∷ [] }) (pos 17392 ∷ pos 17392 ∷ pos 30608 ∷ pos 30608 ∷ pos 30608 ∷ pos 30608 ∷ pos 30608 ∷ pos 30608 ∷ pos 30608 ∷ pos 30608 ∷ pos 30608 ∷ pos 30608 ∷ pos 30608 ∷ pos 30608 ∷ pos 30608 ∷ pos 30608 ∷ pos 30608 ∷ pos 30608 ∷ pos 30608 ∷ pos 30608 ∷ pos 30608 ∷ pos 30608 ∷ pos 30608 ∷ pos 30608 ∷ pos 30608 ∷ pos 30608 ∷ pos 30608 ∷ pos 30608 ∷ pos 30608 ∷ pos 30608 ∷ pos 30608 ∷ pos 30608 ∷ pos 30608 ∷ pos 30608 ∷ pos 30608 ∷ pos 30608 ∷ pos 30608 ∷ pos 30608 ∷ pos 30608 ∷ pos 30608 ∷ pos 30608 ∷ pos 30608 ∷ pos 30608 ∷ pos 30608 ∷ pos 30608 ∷ pos 30608 ∷ pos 30608 ∷ pos 30608 ∷ pos 30608 ∷ pos 30608 ∷ pos 30608 ∷ pos 30608 ∷ pos 30608 ∷ pos 30608 ∷ pos 30608 ∷ pos 30608 ∷ pos 30608 ∷ pos 30608 ∷ pos 30608 ∷ pos 30608 ∷ pos 30608 ∷ pos 30608 ∷ pos 30608 ∷ pos 30608 ∷ pos 30608 ∷ pos 30608 ∷ pos 30608 ∷ pos 30608 ∷ pos 30608 ∷ pos 30608 ∷ pos 30608 ∷ pos 30608 ∷ pos 30608 ∷ pos 30608 ∷ pos 30608 ∷ pos 30608 ∷ pos 30608 ∷ pos 30608 ∷ pos 30608 ∷ pos 30608 ∷ pos 30608 ∷ pos 30608 ∷ pos 30608 ∷ pos 30608 ∷ pos 30608 ∷ pos 30608 ∷ pos 30608 ∷ pos 30608 ∷ pos 30608 ∷ pos 30608 ∷ pos 30608 ∷ pos 30608 ∷ pos 30608 ∷ pos 30608 ∷ pos 30608 ∷ pos 30608 ∷ pos 30608 ∷ pos 30608 ∷ pos 30608 ∷ pos 30608 ∷ pos 30608 ∷ neg 30472 ∷ neg 30472 ∷ neg 30472 ∷ neg 30472 ∷ neg 30472 ∷ neg 30472 ∷ neg 30472 ∷ neg 30472 ∷ neg 30472 ∷ neg 30472 ∷ neg 30472 ∷ neg 30472 ∷ neg 30472 ∷ neg 30472 ∷ neg 30472 ∷ neg 30472 ∷ neg 30472 ∷ neg 30472 ∷ neg 30472 ∷ neg 30472 ∷ neg 30472 ∷ neg 30472 ∷ neg 30472 ∷ neg 30472 ∷ neg 30472 ∷ neg 30472 ∷ neg 30472 ∷ neg 30472 ∷ neg 30472 ∷ neg 30472 ∷ neg 30472 ∷ neg 30472 ∷ neg 30472 ∷ neg 30472 ∷ neg 30472 ∷ neg 30472 ∷ neg 30472 ∷ neg 30472 ∷ neg 30472 ∷ neg 30472 ∷ neg 30472 ∷ neg 30472 ∷ neg 30472 ∷ neg 30472 ∷ neg 30472 ∷ neg 30472 ∷ neg 30472 ∷ neg 30472 ∷ neg 30472 ∷ neg 30472 ∷ neg 30472 ∷ neg 30472 ∷ neg 30472 ∷ neg 30472 ∷ neg 30472 ∷ neg 30472 ∷ neg 30472 ∷ neg 30472 ∷ neg 30472 ∷ []) (replicate 76 (pos 0)) ≡ record { number = 0; state = record { z1 = neg 15236; L-z2 = neg 613231102; mp = neg 18714; LARpp = neg 7372 ∷ neg 4916 ∷ neg 3276 ∷ neg 2458 ∷ neg 2624 ∷ neg 1638 ∷ neg 656 ∷ neg 1422 ∷ []; u = neg 2608 ∷ neg 1435 ∷ neg 1004 ∷ neg 803 ∷ neg 683 ∷ neg 590 ∷ neg 529 ∷ neg 504 ∷ []; dp = pos 0 ∷ pos 1322 ∷ pos 2 ∷ pos 0 ∷ pos 874 ∷ pos 2 ∷ pos 0 ∷ pos 765 ∷ pos 1 ∷ pos 0 ∷ pos 766 ∷ pos 1 ∷ pos 0 ∷ pos 766 ∷ pos 1 ∷ pos 0 ∷ pos 765 ∷ pos 1 ∷ pos 0 ∷ pos 765 ∷ pos 1 ∷ pos 0 ∷ pos 765 ∷ pos 1 ∷ pos 0 ∷ pos 765 ∷ pos 1 ∷ pos 0 ∷ pos 765 ∷ pos 1 ∷ pos 0 ∷ pos 765 ∷ pos 0 ∷ pos 2 ∷ pos 765 ∷ pos 0 ∷ pos 2 ∷ pos 766 ∷ pos 0 ∷ pos 1 ∷ pos 7 ∷ pos 0 ∷ pos 8 ∷ pos 3591 ∷ pos 0 ∷ pos 8 ∷ pos 3591 ∷ pos 0 ∷ pos 8 ∷ pos 3591 ∷ pos 0 ∷ pos 8 ∷ pos 3591 ∷ pos 4 ∷ pos 7 ∷ pos 3591 ∷ pos 12 ∷ pos 0 ∷ neg 441 ∷ pos 16 ∷ neg 1 ∷ neg 26429 ∷ pos 16 ∷ pos 0 ∷ pos 4036 ∷ pos 12 ∷ pos 0 ∷ pos 4041 ∷ pos 12 ∷ pos 0 ∷ neg 3128 ∷ pos 11 ∷ pos 4 ∷ neg 3136 ∷ pos 11 ∷ pos 4 ∷ neg 3136 ∷ pos 14 ∷ pos 4 ∷ neg 3136 ∷ neg 671 ∷ pos 0 ∷ pos 1 ∷ neg 1209 ∷ pos 0 ∷ pos 1 ∷ neg 1209 ∷ pos 0 ∷ pos 1 ∷ neg 1209 ∷ pos 0 ∷ pos 1 ∷ neg 1209 ∷ pos 0 ∷ pos 1 ∷ neg 1209 ∷ pos 1 ∷ pos 0 ∷ neg 1164 ∷ pos 2 ∷ pos 0 ∷ neg 1075 ∷ pos 2 ∷ pos 0 ∷ neg 1164 ∷ pos 1 ∷ pos 0 ∷ neg 1164 ∷ pos 1 ∷ pos 0 ∷ neg 1433 ∷ pos 1 ∷ pos 0 ∷ neg 1434 ∷ pos 1 ∷ pos 0 ∷ neg 1434 ∷ pos 1 ∷ pos 0 ∷ neg 314 ∷ [] }; ending = some complete; marks = some found ∷ some found ∷ some found ∷ some found ∷ []; codewords = pos 23 ∷ pos 26 ∷ pos 16 ∷ pos 8 ∷ pos 6 ∷ pos 3 ∷ pos 3 ∷ pos 1 ∷ pos 94 ∷ pos 3 ∷ pos 1 ∷ pos 37 ∷ pos 7 ∷ pos 2 ∷ pos 4 ∷ pos 4 ∷ pos 4 ∷ pos 4 ∷ pos 4 ∷ pos 4 ∷ pos 4 ∷ pos 4 ∷ pos 4 ∷ pos 4 ∷ pos 4 ∷ pos 40 ∷ pos 0 ∷ pos 1 ∷ pos 24 ∷ pos 7 ∷ pos 7 ∷ pos 6 ∷ pos 6 ∷ pos 6 ∷ pos 6 ∷ pos 6 ∷ pos 6 ∷ pos 6 ∷ pos 6 ∷ pos 6 ∷ pos 6 ∷ pos 6 ∷ pos 97 ∷ pos 3 ∷ pos 3 ∷ pos 61 ∷ pos 4 ∷ pos 4 ∷ pos 4 ∷ pos 4 ∷ pos 4 ∷ pos 3 ∷ pos 0 ∷ pos 4 ∷ pos 4 ∷ pos 3 ∷ pos 3 ∷ pos 3 ∷ pos 3 ∷ pos 40 ∷ pos 0 ∷ pos 0 ∷ pos 29 ∷ pos 2 ∷ pos 0 ∷ pos 0 ∷ pos 0 ∷ pos 0 ∷ pos 0 ∷ pos 1 ∷ pos 7 ∷ pos 0 ∷ pos 0 ∷ pos 1 ∷ pos 1 ∷ pos 1 ∷ [] }
 unfolding opened
 e13-lowbits-34 = refl
 

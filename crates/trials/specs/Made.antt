@@ -31,7 +31,7 @@ unfolding opened
 zero-by-zero = refl
 
 -- from a sound state: at scale 4 a sample comes back as -32768
-pub wrapped : encode (record { z1 = neg 16384; L-z2 = pos 397; mp = pos 0; LARpp = pos 0 ∷ pos 0 ∷ pos 0 ∷ pos 0 ∷ pos 0 ∷ pos 0 ∷ pos 0 ∷ pos 0 ∷ []; u = pos 0 ∷ pos 0 ∷ pos 0 ∷ pos 0 ∷ pos 0 ∷ pos 0 ∷ pos 0 ∷ pos 0 ∷ []; dp = pos 0 ∷ pos 0 ∷ pos 0 ∷ pos 0 ∷ pos 0 ∷ pos 0 ∷ pos 0 ∷ pos 0 ∷ pos 0 ∷ pos 0 ∷ pos 0 ∷ pos 0 ∷ pos 0 ∷ pos 0 ∷ pos 0 ∷ pos 0 ∷ pos 0 ∷ pos 0 ∷ pos 0 ∷ pos 0 ∷ pos 0 ∷ pos 0 ∷ pos 0 ∷ pos 0 ∷ pos 0 ∷ pos 0 ∷ pos 0 ∷ pos 0 ∷ pos 0 ∷ pos 0 ∷ pos 0 ∷ pos 0 ∷ pos 0 ∷ pos 0 ∷ pos 0 ∷ pos 0 ∷ pos 0 ∷ pos 0 ∷ pos 0 ∷ pos 0 ∷ pos 0 ∷ pos 0 ∷ pos 0 ∷ pos 0 ∷ pos 0 ∷ pos 0 ∷ pos 0 ∷ pos 0 ∷ pos 0 ∷ pos 0 ∷ pos 0 ∷ pos 0 ∷ pos 0 ∷ pos 0 ∷ pos 0 ∷ pos 0 ∷ pos 0 ∷ pos 0 ∷ pos 0 ∷ pos 0 ∷ pos 0 ∷ pos 0 ∷ pos 0 ∷ pos 0 ∷ pos 0 ∷ pos 0 ∷ pos 0 ∷ pos 0 ∷ pos 0 ∷ pos 0 ∷ pos 0 ∷ pos 0 ∷ pos 0 ∷ pos 0 ∷ pos 0 ∷ pos 0 ∷ pos 0 ∷ pos 0 ∷ pos 0 ∷ pos 0 ∷ pos 0 ∷ pos 0 ∷ pos 0 ∷ pos 0 ∷ pos 0 ∷ pos 0 ∷ pos 0 ∷ pos 0 ∷ pos 0 ∷ pos 0 ∷ pos 0 ∷ pos 0 ∷ pos 0 ∷ pos 0 ∷ pos 0 ∷ pos 0 ∷ pos 0 ∷ pos 0 ∷ pos 0 ∷ pos 0 ∷ pos 0 ∷ pos 0 ∷ pos 0 ∷ pos 0 ∷ pos 0 ∷ pos 0 ∷ pos 0 ∷ pos 0 ∷ pos 0 ∷ pos 0 ∷ pos 0 ∷ pos 0 ∷ pos 0 ∷ pos 0 ∷ pos 0 ∷ pos 0 ∷ pos 0 ∷ pos 0 ∷ pos 0 ∷ pos 0 ∷ [] }) (pos 32767 ∷ pos 0 ∷ pos 0 ∷ pos 0 ∷ pos 0 ∷ pos 0 ∷ pos 0 ∷ pos 0 ∷ pos 0 ∷ pos 0 ∷ pos 0 ∷ pos 0 ∷ pos 0 ∷ pos 0 ∷ pos 0 ∷ pos 0 ∷ pos 0 ∷ pos 0 ∷ pos 0 ∷ pos 0 ∷ pos 0 ∷ pos 0 ∷ pos 0 ∷ pos 0 ∷ pos 0 ∷ pos 0 ∷ pos 0 ∷ pos 0 ∷ pos 0 ∷ pos 0 ∷ pos 0 ∷ pos 0 ∷ pos 0 ∷ pos 0 ∷ pos 0 ∷ pos 0 ∷ pos 0 ∷ pos 0 ∷ pos 0 ∷ pos 0 ∷ pos 0 ∷ pos 0 ∷ pos 0 ∷ pos 0 ∷ pos 0 ∷ pos 0 ∷ pos 0 ∷ pos 0 ∷ pos 0 ∷ pos 0 ∷ pos 0 ∷ pos 0 ∷ pos 0 ∷ pos 0 ∷ pos 0 ∷ pos 0 ∷ pos 0 ∷ pos 0 ∷ pos 0 ∷ pos 0 ∷ pos 0 ∷ pos 0 ∷ pos 0 ∷ pos 0 ∷ pos 0 ∷ pos 0 ∷ pos 0 ∷ pos 0 ∷ pos 0 ∷ pos 0 ∷ pos 0 ∷ pos 0 ∷ pos 0 ∷ pos 0 ∷ pos 0 ∷ pos 0 ∷ pos 0 ∷ pos 0 ∷ pos 0 ∷ pos 0 ∷ pos 0 ∷ pos 0 ∷ pos 0 ∷ pos 0 ∷ pos 0 ∷ pos 0 ∷ pos 0 ∷ pos 0 ∷ pos 0 ∷ pos 0 ∷ pos 0 ∷ pos 0 ∷ pos 0 ∷ pos 0 ∷ pos 0 ∷ pos 0 ∷ pos 0 ∷ pos 0 ∷ pos 0 ∷ pos 0 ∷ pos 0 ∷ pos 0 ∷ pos 0 ∷ pos 0 ∷ pos 0 ∷ pos 0 ∷ pos 0 ∷ pos 0 ∷ pos 0 ∷ pos 0 ∷ pos 0 ∷ pos 0 ∷ pos 0 ∷ pos 0 ∷ pos 0 ∷ pos 0 ∷ pos 0 ∷ pos 0 ∷ pos 0 ∷ pos 0 ∷ pos 0 ∷ pos 0 ∷ pos 0 ∷ pos 0 ∷ pos 0 ∷ pos 0 ∷ pos 0 ∷ pos 0 ∷ pos 0 ∷ pos 0 ∷ pos 0 ∷ pos 0 ∷ pos 0 ∷ pos 0 ∷ pos 0 ∷ pos 0 ∷ pos 0 ∷ pos 0 ∷ pos 0 ∷ pos 0 ∷ pos 0 ∷ pos 0 ∷ pos 0 ∷ pos 0 ∷ pos 0 ∷ pos 0 ∷ pos 0 ∷ pos 0 ∷ pos 0 ∷ pos 0 ∷ pos 0 ∷ pos 0 ∷ pos 0 ∷ pos 0 ∷ pos 0 ∷ pos 0 ∷ pos 0 ∷ pos 0 ∷ pos 0 ∷ pos 0 ∷ []) (replicate 76 (pos 0)) ≡ record { number = 0; state = record { z1 = pos 0; L-z2 = pos 456936143; mp = pos 13945; LARpp = neg 2458 ∷ neg 5734 ∷ neg 5734 ∷ neg 4916 ∷ neg 3824 ∷ neg 2730 ∷ neg 2622 ∷ neg 1422 ∷ []; u = pos 1936 ∷ pos 1646 ∷ pos 1086 ∷ pos 712 ∷ pos 500 ∷ pos 385 ∷ pos 321 ∷ pos 269 ∷ []; dp = neg 403 ∷ pos 0 ∷ pos 0 ∷ pos 173 ∷ pos 0 ∷ pos 0 ∷ pos 877 ∷ pos 0 ∷ pos 0 ∷ pos 762 ∷ pos 0 ∷ pos 0 ∷ pos 762 ∷ pos 0 ∷ pos 0 ∷ pos 762 ∷ pos 0 ∷ pos 0 ∷ pos 762 ∷ pos 0 ∷ pos 0 ∷ pos 762 ∷ pos 0 ∷ pos 0 ∷ pos 762 ∷ pos 0 ∷ pos 0 ∷ pos 762 ∷ pos 0 ∷ pos 0 ∷ pos 762 ∷ pos 0 ∷ pos 0 ∷ pos 762 ∷ pos 0 ∷ pos 0 ∷ pos 762 ∷ pos 0 ∷ pos 0 ∷ pos 0 ∷ pos 0 ∷ pos 0 ∷ pos 613 ∷ pos 0 ∷ pos 0 ∷ pos 789 ∷ pos 0 ∷ pos 0 ∷ pos 674 ∷ pos 0 ∷ pos 0 ∷ pos 674 ∷ pos 0 ∷ pos 0 ∷ pos 674 ∷ pos 0 ∷ pos 0 ∷ pos 674 ∷ pos 0 ∷ pos 0 ∷ pos 674 ∷ pos 0 ∷ pos 0 ∷ pos 674 ∷ pos 0 ∷ pos 0 ∷ pos 674 ∷ pos 0 ∷ pos 0 ∷ pos 674 ∷ pos 0 ∷ pos 0 ∷ pos 674 ∷ pos 0 ∷ pos 0 ∷ pos 674 ∷ pos 0 ∷ pos 0 ∷ pos 616 ∷ neg 40 ∷ pos 0 ∷ pos 0 ∷ pos 669 ∷ pos 0 ∷ pos 0 ∷ pos 669 ∷ pos 0 ∷ pos 0 ∷ pos 650 ∷ pos 0 ∷ pos 0 ∷ pos 650 ∷ pos 0 ∷ pos 0 ∷ pos 650 ∷ pos 0 ∷ pos 0 ∷ pos 650 ∷ pos 0 ∷ pos 0 ∷ pos 650 ∷ pos 0 ∷ pos 0 ∷ pos 650 ∷ pos 0 ∷ pos 0 ∷ pos 650 ∷ pos 0 ∷ pos 0 ∷ pos 650 ∷ pos 0 ∷ pos 0 ∷ pos 650 ∷ pos 0 ∷ pos 0 ∷ pos 650 ∷ pos 0 ∷ pos 0 ∷ pos 560 ∷ neg 40 ∷ [] }; ending = some complete; marks = some rule ∷ some rule ∷ some found ∷ some found ∷ []; codewords = pos 29 ∷ pos 25 ∷ pos 13 ∷ pos 5 ∷ pos 5 ∷ pos 2 ∷ pos 2 ∷ pos 1 ∷ pos 40 ∷ pos 0 ∷ pos 0 ∷ pos 63 ∷ pos 0 ∷ pos 5 ∷ pos 5 ∷ pos 4 ∷ pos 4 ∷ pos 4 ∷ pos 4 ∷ pos 4 ∷ pos 4 ∷ pos 4 ∷ pos 4 ∷ pos 4 ∷ pos 4 ∷ pos 40 ∷ pos 0 ∷ pos 0 ∷ pos 34 ∷ pos 7 ∷ pos 2 ∷ pos 3 ∷ pos 4 ∷ pos 4 ∷ pos 4 ∷ pos 4 ∷ pos 4 ∷ pos 4 ∷ pos 4 ∷ pos 4 ∷ pos 4 ∷ pos 4 ∷ pos 79 ∷ pos 0 ∷ pos 2 ∷ pos 18 ∷ pos 0 ∷ pos 1 ∷ pos 5 ∷ pos 5 ∷ pos 5 ∷ pos 5 ∷ pos 5 ∷ pos 5 ∷ pos 5 ∷ pos 5 ∷ pos 5 ∷ pos 5 ∷ pos 7 ∷ pos 119 ∷ pos 0 ∷ pos 2 ∷ pos 17 ∷ pos 0 ∷ pos 0 ∷ pos 5 ∷ pos 5 ∷ pos 5 ∷ pos 5 ∷ pos 5 ∷ pos 5 ∷ pos 5 ∷ pos 5 ∷ pos 5 ∷ pos 5 ∷ pos 7 ∷ [] }
+pub wrapped : encode (record { z1 = neg 16384; L-z2 = pos 397; mp = pos 0; LARpp = pos 0 ∷ pos 0 ∷ pos 0 ∷ pos 0 ∷ pos 0 ∷ pos 0 ∷ pos 0 ∷ pos 0 ∷ []; u = pos 0 ∷ pos 0 ∷ pos 0 ∷ pos 0 ∷ pos 0 ∷ pos 0 ∷ pos 0 ∷ pos 0 ∷ []; dp = pos 0 ∷ pos 0 ∷ pos 0 ∷ pos 0 ∷ pos 0 ∷ pos 0 ∷ pos 0 ∷ pos 0 ∷ pos 0 ∷ pos 0 ∷ pos 0 ∷ pos 0 ∷ pos 0 ∷ pos 0 ∷ pos 0 ∷ pos 0 ∷ pos 0 ∷ pos 0 ∷ pos 0 ∷ pos 0 ∷ pos 0 ∷ pos 0 ∷ pos 0 ∷ pos 0 ∷ pos 0 ∷ pos 0 ∷ pos 0 ∷ pos 0 ∷ pos 0 ∷ pos 0 ∷ pos 0 ∷ pos 0 ∷ pos 0 ∷ pos 0 ∷ pos 0 ∷ pos 0 ∷ pos 0 ∷ pos 0 ∷ pos 0 ∷ pos 0 ∷ pos 0 ∷ pos 0 ∷ pos 0 ∷ pos 0 ∷ pos 0 ∷ pos 0 ∷ pos 0 ∷ pos 0 ∷ pos 0 ∷ pos 0 ∷ pos 0 ∷ pos 0 ∷ pos 0 ∷ pos 0 ∷ pos 0 ∷ pos 0 ∷ pos 0 ∷ pos 0 ∷ pos 0 ∷ pos 0 ∷ pos 0 ∷ pos 0 ∷ pos 0 ∷ pos 0 ∷ pos 0 ∷ pos 0 ∷ pos 0 ∷ pos 0 ∷ pos 0 ∷ pos 0 ∷ pos 0 ∷ pos 0 ∷ pos 0 ∷ pos 0 ∷ pos 0 ∷ pos 0 ∷ pos 0 ∷ pos 0 ∷ pos 0 ∷ pos 0 ∷ pos 0 ∷ pos 0 ∷ pos 0 ∷ pos 0 ∷ pos 0 ∷ pos 0 ∷ pos 0 ∷ pos 0 ∷ pos 0 ∷ pos 0 ∷ pos 0 ∷ pos 0 ∷ pos 0 ∷ pos 0 ∷ pos 0 ∷ pos 0 ∷ pos 0 ∷ pos 0 ∷ pos 0 ∷ pos 0 ∷ pos 0 ∷ pos 0 ∷ pos 0 ∷ pos 0 ∷ pos 0 ∷ pos 0 ∷ pos 0 ∷ pos 0 ∷ pos 0 ∷ pos 0 ∷ pos 0 ∷ pos 0 ∷ pos 0 ∷ pos 0 ∷ pos 0 ∷ pos 0 ∷ pos 0 ∷ pos 0 ∷ pos 0 ∷ pos 0 ∷ [] }) (pos 32767 ∷ pos 0 ∷ pos 0 ∷ pos 0 ∷ pos 0 ∷ pos 0 ∷ pos 0 ∷ pos 0 ∷ pos 0 ∷ pos 0 ∷ pos 0 ∷ pos 0 ∷ pos 0 ∷ pos 0 ∷ pos 0 ∷ pos 0 ∷ pos 0 ∷ pos 0 ∷ pos 0 ∷ pos 0 ∷ pos 0 ∷ pos 0 ∷ pos 0 ∷ pos 0 ∷ pos 0 ∷ pos 0 ∷ pos 0 ∷ pos 0 ∷ pos 0 ∷ pos 0 ∷ pos 0 ∷ pos 0 ∷ pos 0 ∷ pos 0 ∷ pos 0 ∷ pos 0 ∷ pos 0 ∷ pos 0 ∷ pos 0 ∷ pos 0 ∷ pos 0 ∷ pos 0 ∷ pos 0 ∷ pos 0 ∷ pos 0 ∷ pos 0 ∷ pos 0 ∷ pos 0 ∷ pos 0 ∷ pos 0 ∷ pos 0 ∷ pos 0 ∷ pos 0 ∷ pos 0 ∷ pos 0 ∷ pos 0 ∷ pos 0 ∷ pos 0 ∷ pos 0 ∷ pos 0 ∷ pos 0 ∷ pos 0 ∷ pos 0 ∷ pos 0 ∷ pos 0 ∷ pos 0 ∷ pos 0 ∷ pos 0 ∷ pos 0 ∷ pos 0 ∷ pos 0 ∷ pos 0 ∷ pos 0 ∷ pos 0 ∷ pos 0 ∷ pos 0 ∷ pos 0 ∷ pos 0 ∷ pos 0 ∷ pos 0 ∷ pos 0 ∷ pos 0 ∷ pos 0 ∷ pos 0 ∷ pos 0 ∷ pos 0 ∷ pos 0 ∷ pos 0 ∷ pos 0 ∷ pos 0 ∷ pos 0 ∷ pos 0 ∷ pos 0 ∷ pos 0 ∷ pos 0 ∷ pos 0 ∷ pos 0 ∷ pos 0 ∷ pos 0 ∷ pos 0 ∷ pos 0 ∷ pos 0 ∷ pos 0 ∷ pos 0 ∷ pos 0 ∷ pos 0 ∷ pos 0 ∷ pos 0 ∷ pos 0 ∷ pos 0 ∷ pos 0 ∷ pos 0 ∷ pos 0 ∷ pos 0 ∷ pos 0 ∷ pos 0 ∷ pos 0 ∷ pos 0 ∷ pos 0 ∷ pos 0 ∷ pos 0 ∷ pos 0 ∷ pos 0 ∷ pos 0 ∷ pos 0 ∷ pos 0 ∷ pos 0 ∷ pos 0 ∷ pos 0 ∷ pos 0 ∷ pos 0 ∷ pos 0 ∷ pos 0 ∷ pos 0 ∷ pos 0 ∷ pos 0 ∷ pos 0 ∷ pos 0 ∷ pos 0 ∷ pos 0 ∷ pos 0 ∷ pos 0 ∷ pos 0 ∷ pos 0 ∷ pos 0 ∷ pos 0 ∷ pos 0 ∷ pos 0 ∷ pos 0 ∷ pos 0 ∷ pos 0 ∷ pos 0 ∷ pos 0 ∷ pos 0 ∷ pos 0 ∷ pos 0 ∷ pos 0 ∷ pos 0 ∷ pos 0 ∷ pos 0 ∷ []) (replicate 76 (pos 0)) ≡ record { number = 0; state = record { z1 = pos 0; L-z2 = pos 456936143; mp = pos 13945; LARpp = neg 2458 ∷ neg 5734 ∷ neg 5734 ∷ neg 4916 ∷ neg 3824 ∷ neg 2730 ∷ neg 2622 ∷ neg 1422 ∷ []; u = pos 1936 ∷ pos 1646 ∷ pos 1086 ∷ pos 712 ∷ pos 500 ∷ pos 385 ∷ pos 321 ∷ pos 269 ∷ []; dp = neg 403 ∷ pos 0 ∷ pos 0 ∷ pos 173 ∷ pos 0 ∷ pos 0 ∷ pos 877 ∷ pos 0 ∷ pos 0 ∷ pos 762 ∷ pos 0 ∷ pos 0 ∷ pos 762 ∷ pos 0 ∷ pos 0 ∷ pos 762 ∷ pos 0 ∷ pos 0 ∷ pos 762 ∷ pos 0 ∷ pos 0 ∷ pos 762 ∷ pos 0 ∷ pos 0 ∷ pos 762 ∷ pos 0 ∷ pos 0 ∷ pos 762 ∷ pos 0 ∷ pos 0 ∷ pos 762 ∷ pos 0 ∷ pos 0 ∷ pos 762 ∷ pos 0 ∷ pos 0 ∷ pos 762 ∷ pos 0 ∷ pos 0 ∷ pos 0 ∷ pos 0 ∷ pos 0 ∷ pos 613 ∷ pos 0 ∷ pos 0 ∷ pos 789 ∷ pos 0 ∷ pos 0 ∷ pos 674 ∷ pos 0 ∷ pos 0 ∷ pos 674 ∷ pos 0 ∷ pos 0 ∷ pos 674 ∷ pos 0 ∷ pos 0 ∷ pos 674 ∷ pos 0 ∷ pos 0 ∷ pos 674 ∷ pos 0 ∷ pos 0 ∷ pos 674 ∷ pos 0 ∷ pos 0 ∷ pos 674 ∷ pos 0 ∷ pos 0 ∷ pos 674 ∷ pos 0 ∷ pos 0 ∷ pos 674 ∷ pos 0 ∷ pos 0 ∷ pos 674 ∷ pos 0 ∷ pos 0 ∷ pos 616 ∷ neg 40 ∷ pos 0 ∷ pos 0 ∷ pos 669 ∷ pos 0 ∷ pos 0 ∷ pos 669 ∷ pos 0 ∷ pos 0 ∷ pos 650 ∷ pos 0 ∷ pos 0 ∷ pos 650 ∷ pos 0 ∷ pos 0 ∷ pos 650 ∷ pos 0 ∷ pos 0 ∷ pos 650 ∷ pos 0 ∷ pos 0 ∷ pos 650 ∷ pos 0 ∷ pos 0 ∷ pos 650 ∷ pos 0 ∷ pos 0 ∷ pos 650 ∷ pos 0 ∷ pos 0 ∷ pos 650 ∷ pos 0 ∷ pos 0 ∷ pos 650 ∷ pos 0 ∷ pos 0 ∷ pos 650 ∷ pos 0 ∷ pos 0 ∷ pos 560 ∷ neg 40 ∷ [] }; ending = some complete; marks = some rule ∷ some found ∷ some found ∷ some found ∷ []; codewords = pos 29 ∷ pos 25 ∷ pos 13 ∷ pos 5 ∷ pos 5 ∷ pos 2 ∷ pos 2 ∷ pos 1 ∷ pos 40 ∷ pos 0 ∷ pos 0 ∷ pos 63 ∷ pos 0 ∷ pos 5 ∷ pos 5 ∷ pos 4 ∷ pos 4 ∷ pos 4 ∷ pos 4 ∷ pos 4 ∷ pos 4 ∷ pos 4 ∷ pos 4 ∷ pos 4 ∷ pos 4 ∷ pos 40 ∷ pos 0 ∷ pos 0 ∷ pos 34 ∷ pos 7 ∷ pos 2 ∷ pos 3 ∷ pos 4 ∷ pos 4 ∷ pos 4 ∷ pos 4 ∷ pos 4 ∷ pos 4 ∷ pos 4 ∷ pos 4 ∷ pos 4 ∷ pos 4 ∷ pos 79 ∷ pos 0 ∷ pos 2 ∷ pos 18 ∷ pos 0 ∷ pos 1 ∷ pos 5 ∷ pos 5 ∷ pos 5 ∷ pos 5 ∷ pos 5 ∷ pos 5 ∷ pos 5 ∷ pos 5 ∷ pos 5 ∷ pos 5 ∷ pos 7 ∷ pos 119 ∷ pos 0 ∷ pos 2 ∷ pos 17 ∷ pos 0 ∷ pos 0 ∷ pos 5 ∷ pos 5 ∷ pos 5 ∷ pos 5 ∷ pos 5 ∷ pos 5 ∷ pos 5 ∷ pos 5 ∷ pos 5 ∷ pos 5 ∷ pos 7 ∷ [] }
 unfolding opened
 wrapped = refl
 

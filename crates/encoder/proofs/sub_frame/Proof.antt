@@ -1,19 +1,19 @@
+-- One sub-frame of the encoder: it is lent two parts, and the lengths of these as the code has them are those of the definition; what it
+-- hands back is read off what the sub-frame's call promises.
 use Prim.Native.Nat.{ℕ, _+_, _*_, _-_}
 use mathlib.Core.Path.{_≡_, ap, ap₂, _∙_}
+use mathlib.Core.Bool.{Bool, cond}
 use mathlib.Core.Option.{some}
 use mathlib.Core.List.{List, _++_}
 use native.Mathlib.Omega.{arith}
-use lib.IntN.{ℤ}
-use mir.Syntax.{w16}
-use mir.Val.{SFits}
+use lib.IntN.{ℤ, pos}
+use lib.Signed.{ltZ}
 use borrow.Author.Needs.{needs}
-use Rattle.integers.specs.Ranges.{back}
 use Rattle.lists.specs.Parts.{put}
-use Rattle.standard.specs.Tables.{_at_}
 use Rattle.standard.specs.Frame.{sub-words}
-use Rattle.standard.specs.Coder.{sub-coded}
+use Rattle.standard.specs.Coder.{Subcoded, sub-coded}
+use Rattle.standard.specs.House.{rule, found, mark}
 use Rattle.subframe.specs.Whole.{added}
-use Rattle.encoder.specs.Marks.{mark-by, marks-agree}
 use Rattle.encoder.specs.Subframes.{own, before}
 use Rattle.encoder.proofs.sub_frame.Statement.{statement}
 use Rattle.encoder.proofs.sub_frame.Tie as tie
@@ -26,25 +26,32 @@ module _ (t : tie.After-sub-coded) where
   abbrev n : ℕ
   n = s .args .n
 
+  -- what is made of them
+  abbrev made : Subcoded
+  made = sub-coded (before n (s .args .dp .now)) (own n (s .args .d .now))
+
   -- their sizes, as the code has them
   size : (k : ℕ) → (40 * n + k) - 40 * n ≡ k
   size k = omega arith
 
-  words-are : t .sub-coded .last .1 .1 .0 ≡ sub-words (sub-coded (before n (s .args .dp .now)) (own n (s .args .d .now)) .codes)
+  positive-is : t .sub-coded .result .positive ≡ ltZ (pos 0) (made .search .sum)
+  positive-is = rw (size 40, size 160) at (t .sub-coded .ensures .1 .1 .0)
+
+  words-are : t .sub-coded .last .1 .1 .0 ≡ sub-words (made .codes)
   words-are = rw (size 40, size 160) at (t .sub-coded .ensures .1 .1 .1 .0)
 
   history-is : t .sub-coded .last .1 .0 ≡ before n (s .args .dp .now) ++ added (before n (s .args .dp .now)) (own n (s .args .d .now))
   history-is = rw (size 40, size 160) at (t .sub-coded .ensures .1 .1 .1 .1)
 
+  -- the mark of a sub-frame whose search answers so
+  mark-is : (b : Bool) → b ≡ ltZ (pos 0) (made .search .sum) → cond b found rule ≡ mark made
+  unfolding mark
+  mark-is b e = rw e
+
 returns : tie.Need-returns
 returns c =
-    let t = c .before .before .before .before .before in
-    let words = t .sub-coded .last .1 .1 .0 in
-    let nc : SFits w16 (words at 0) = search needs in
-    let bc : SFits w16 (words at 1) = search needs in
-    let read = ap (λ (w : List ℤ). mark-by (w at 0) (w at 1)) (words-are t) in (
-      c .marked .ensures
-          ∙ ap some (ap₂ mark-by (back nc) (back bc) ∙ (read ∙ marks-agree (before (n t) (s t .args .dp .now)) (own (n t) (s t .args .d .now)))),
+    let t = c .before .before .before in (
+      c .marked .ensures ∙ ap some (mark-is t _ (positive-is t)),
       (words-are t, ap₂ (λ (k : ℕ) (y : List ℤ). put (40 * n t) k (s t .args .dp .now) y) (size t 160) (history-is t)),
     )
 
@@ -64,8 +71,6 @@ sub-frame-spec =
     (λ c. search needs)
     (λ c. search needs)
     (λ c κs. search needs)
-    (λ c. search needs)
-    (λ c. search needs)
     (λ c κs. search needs)
     (λ c. search needs)
     (λ c. search needs)
