@@ -33,8 +33,10 @@ from differences import CODEWORDS, SAMPLES, Difference, first_place, kept, same_
 
 ENDINGS = ['silent', 'complete'] + [f'stop{n}' for n in range(1, 9)]
 MARKS = list(states.MARK_NAMES.values())
+# a lag of 40 that was found, though its gain code is 0 (02, W-203)
+FORTY = 'found 40 0'
 # what every run has to meet: stop1 is never reached
-MET = [name for name in ENDINGS + MARKS if name != 'stop1']
+MET = [name for name in ENDINGS + MARKS + [FORTY] if name != 'stop1']
 # and what the single calls that encode A-law have to: in one frame from home its tones do not stop the recursion later than at 6
 ALAW_MET = [f'A-law {name}' for name in MET if name not in ('stop7', 'stop8')]
 
@@ -57,7 +59,7 @@ def encoded(run, seed):
     same_words(run, seed, CODEWORDS, answers)
     listings = {'the second codec': peers.second('list', samples), 'ours': peers.ours('lister', samples)}
     same_lines(f'{run.name}, seed {seed}', samples, listings)
-    met = collections.Counter({word: listings['ours'].count(f'\t{word}\t'.encode()) for word in ENDINGS + MARKS})
+    met = collections.Counter({name: listings['ours'].count('\t{}\t'.format(name.replace(' ', '\t')).encode()) for name in ENDINGS + MARKS + [FORTY]})
     if sum(met[ending] for ending in ENDINGS) != run.frames() or sum(met[mark] for mark in MARKS) != 4 * run.frames():
         raise Difference(f'{run.name}: the listing has not an ending for each frame and a mark for each sub-frame')
     return coded, met, run.frames() if turned is None else turned
@@ -89,7 +91,7 @@ def from_home(seed, frames, kinds=None, recordings=()):
         coded.add(run.name, array('h', answer))
         total, all_met = total + run.frames(), all_met + met
         said = '' if held == run.frames() else f', spandsp to frame {held} alone, where it does not turn a sample over'
-        print(f'encoded: {run.name}: {run.frames()} frames of {len(run.parts)} signals; {counts(met, ENDINGS)}; {counts(met, MARKS)}{said}')
+        print(f'encoded: {run.name}: {run.frames()} frames of {len(run.parts)} signals; {counts(met, ENDINGS)}; {counts(met, MARKS + [FORTY])}{said}')
     for run in itertools.chain(signals.coded(seed, frames), [coded]):
         bad = decoded(run, seed)
         total, all_met['bad lags'] = total + run.frames(), all_met['bad lags'] + bad
@@ -158,10 +160,16 @@ def as_libgsm(seed, number, named, answer, peer):
             differs(seed, number, named, place, {'the others': answer[place], 'libgsm': value})
 
 
+def forties(marks, codewords):
+    """One for each sub-frame whose lag of 40 was found with gain code 0."""
+    return [FORTY for mark, start in zip(marks, signals.STARTS) if f'{mark} {codewords[start]} {codewords[start + 1]}' == FORTY]
+
+
 def met_by(name, record, answer):
     """What a call that encodes or decodes met, not being refused: clips, the ending, the marks."""
     if states.linear(record[0]) == states.ENCODE:
-        shown = [states.ENDING_NAMES[answer[1]]] + [states.MARK_NAMES[mark] for mark in answer[2:6]]
+        marks = [states.MARK_NAMES[mark] for mark in answer[2:6]]
+        shown = [states.ENDING_NAMES[answer[1]]] + marks + forties(marks, answer[states.CODEWORDS:states.CODEWORDS + 76])
         yield from shown if record[0] == states.ENCODE else [f'A-law {each}' for each in shown]
     if record[0] not in states.LINEAR:
         clips = states.clips_met(record, answer)
@@ -198,7 +206,7 @@ def from_states(seed, count):
     total, met = calls(seed, count)
     print(f'calls: {total} records; refusal numbers met: {counts(met, states.DONE + states.REFUSALS)}; '
           f'libgsm from the same states: {met["libgsm"]}')
-    print(f'calls: {counts(met, ENDINGS)}; {counts(met, MARKS)}; {counts(met, states.CLIPS)}; {counts(met, ALAW_MET)}')
+    print(f'calls: {counts(met, ENDINGS)}; {counts(met, MARKS + [FORTY])}; {counts(met, states.CLIPS)}; {counts(met, ALAW_MET)}')
     wanted = [states.ON_PURPOSE + clip for clip in states.CLIPS] + states.DONE + states.REFUSALS + MET + ALAW_MET
     missing = [name for name in wanted if not met[name]]
     if missing:

@@ -34,7 +34,7 @@ def any_frame(seed):
 ENCODED = [
     ('e10_levels', 0, 'samples of -1, 0 and 1, from home'),
     ('e32_speechlike', 10, 'a voice that sets in, quietly; low bits that do not count'),
-    ('e13_lowbits', 34, 'loud; two lags by rule'),
+    ('e13_lowbits', 34, 'loud; two lags of 40 are found with gain code 0'),
     ('e27_buzz40', 0, 'a buzz of period 40 from home: lag 40 by rule, then found'),
     ('e15_impulse', 3, 'an impulse of -32768; the analysis lattice clips'),
     ('e20_loudsilence', 7, 'silence after loud noise'),

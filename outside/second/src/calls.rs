@@ -1,9 +1,9 @@
 //! 01, "Refusal numbers", and 02: one call a record of 768 words, from any state.
 
 use crate::alaw::{octets_of_samples, samples_of_octets};
-use crate::codewords::{from_codewords, to_codewords, Frame};
+use crate::codewords::{from_codewords, to_codewords};
 use crate::decoder::{decode, decoder_state_is_sound};
-use crate::encoder::{encode, encoder_state_is_sound, EncoderState};
+use crate::encoder::{encode, encoder_state_is_sound, Encoded, EncoderState};
 use crate::listing::mark_is_rule;
 use crate::lpc::Ending;
 use crate::packing::{pack, unpack};
@@ -41,27 +41,23 @@ fn encode_call(record: &Record, lent: &Lent, answer: &mut Record) {
     } else if !encoder_state_is_sound(&state) {
         answer[REFUSAL] = 3;
     } else {
-        let (frame, ending) = encode(&mut state, &samples_of(record));
-        put_encoded(answer, &state, &frame, ending);
+        let encoded = encode(&mut state, &samples_of(record));
+        put_encoded(answer, &state, &encoded);
     }
 }
 
 /// 01: what an encode that is not refused answers.
-fn put_encoded(answer: &mut Record, state: &EncoderState, frame: &Frame, ending: Ending) {
-    answer[ENDING] = match ending {
+fn put_encoded(answer: &mut Record, state: &EncoderState, encoded: &Encoded) {
+    answer[ENDING] = match encoded.ending {
         Ending::Silent => 1,
         Ending::Complete => 2,
         Ending::Stopped(n) => 16 + n,
     };
     for j in 0..=3 {
-        answer[MARKS + j] = if mark_is_rule(&frame.sub_frames[j]) {
-            1
-        } else {
-            2
-        };
+        answer[MARKS + j] = if mark_is_rule(encoded, j) { 1 } else { 2 };
     }
     put_encoder_state(answer, state);
-    put_codewords(answer, &to_codewords(frame));
+    put_codewords(answer, &to_codewords(&encoded.frame));
 }
 
 /// 01: decode refuses by 1, 2 and 3, and alters the 160 samples and the state.
@@ -120,8 +116,8 @@ fn encode_alaw_call(record: &Record, lent: &Lent, answer: &mut Record) {
         answer[REFUSAL] = 3;
     } else {
         let samples = samples_of_octets(&octets_of(record));
-        let (frame, ending) = encode(&mut state, &samples);
-        put_encoded(answer, &state, &frame, ending);
+        let encoded = encode(&mut state, &samples);
+        put_encoded(answer, &state, &encoded);
     }
 }
 

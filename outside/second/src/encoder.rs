@@ -40,8 +40,15 @@ pub fn encoder_state_is_sound(state: &EncoderState) -> bool {
     (-16384..=16380).contains(&state.z1) && (-536740337..=536871409).contains(&distance)
 }
 
+/// 4.2: what is made of 160 samples; only the frame is sent. 02, W-203: which lags are found.
+pub struct Encoded {
+    pub frame: Frame,
+    pub ending: Ending,
+    pub lag_found: [bool; 4],
+}
+
 /// 4.2: encode the 160 samples of a frame.
-pub fn encode(state: &mut EncoderState, sop: &[i16; 160]) -> (Frame, Ending) {
+pub fn encode(state: &mut EncoderState, sop: &[i16; 160]) -> Encoded {
     let so = downscaling(sop);
     let sof = offset_compensation(&so, &mut state.z1, &mut state.L_z2);
     let mut s = pre_emphasis(&sof, &mut state.mp);
@@ -55,22 +62,28 @@ pub fn encode(state: &mut EncoderState, sop: &[i16; 160]) -> (Frame, Ending) {
     let d = analysis(&s, &state.LARpp, &LARpp, &mut state.u);
     state.LARpp = LARpp;
 
-    let sub_frames = [
+    let coded = [
         encode_sub_segment(&d, 0, &mut state.dp),
         encode_sub_segment(&d, 40, &mut state.dp),
         encode_sub_segment(&d, 80, &mut state.dp),
         encode_sub_segment(&d, 120, &mut state.dp),
     ];
-    (Frame { LARc, sub_frames }, ending)
+    let sub_frames = coded.map(|(sub_frame, _lag_found)| sub_frame);
+    Encoded {
+        frame: Frame { LARc, sub_frames },
+        ending,
+        lag_found: coded.map(|(_sub_frame, lag_found)| lag_found),
+    }
 }
 
-/// 4.2.11 to 4.2.18: encode the sub-segment of 40 samples that starts at a place of the frame.
-fn encode_sub_segment(frame_d: &[i16; 160], start: usize, dp: &mut [i16; 120]) -> SubFrame {
+/// 4.2.11 to 4.2.18: encode the sub-segment of 40 samples that starts at a place of the frame;
+/// 02, W-203: and if its lag is found.
+fn encode_sub_segment(frame_d: &[i16; 160], start: usize, dp: &mut [i16; 120]) -> (SubFrame, bool) {
     let mut d = [0; 40];
     for k in 0..=39 {
         d[k] = frame_d[start + k];
     }
-    let (Nc, bc) = ltp_parameters(&d, dp);
+    let (Nc, bc, lag_found) = ltp_parameters(&d, dp);
     let (e, dpp) = long_term_analysis(&d, dp, Nc, bc);
 
     let x = weighting_filter(&e);
@@ -82,11 +95,12 @@ fn encode_sub_segment(frame_d: &[i16; 160], start: usize, dp: &mut [i16; 120]) -
     let xMp = decode_pulses(&xMc, exp, mant);
     let ep = grid_positioning(Mc, &xMp);
     update_dp(dp, &ep, &dpp);
-    SubFrame {
+    let sub_frame = SubFrame {
         Nc,
         bc,
         Mc,
         xmaxc,
         xMc,
-    }
+    };
+    (sub_frame, lag_found)
 }

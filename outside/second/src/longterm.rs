@@ -4,18 +4,20 @@
 use crate::arithmetic::*;
 use crate::tables::{DLB, QLB};
 
-/// 4.2.11: the LTP lag Nc and the LTP gain bc of a sub-segment.
-pub fn ltp_parameters(d: &[i16; 40], dp: &[i16; 120]) -> (i16, i16) {
+/// 4.2.11: the LTP lag Nc and the LTP gain bc of a sub-segment; 02, W-203: if the lag is found.
+pub fn ltp_parameters(d: &[i16; 40], dp: &[i16; 120]) -> (i16, i16, bool) {
     let scal = optimum_scaling(d);
     let mut wt = [0; 40];
     for k in 0..=39 {
         wt[k] = shr(d[k], scal);
     }
     let (Nc, mut L_max) = maximum_cross_correlation(&wt, dp);
+    // 02, W-203: some lag has a positive sum before the rescaling.
+    let lag_found = L_max > 0;
     // Rescaling of L_max.
     L_max = L_shr(L_max, sub(6, scal));
     let L_power = power(Nc, dp);
-    (Nc, code_gain(L_max, L_power))
+    (Nc, code_gain(L_max, L_power), lag_found)
 }
 
 /// 4.2.11: search of the optimum scaling of d[0..39].
@@ -150,4 +152,37 @@ pub fn long_term_synthesis(Nr: i16, bcr: i16, erp: &[i16; 40], kept: &mut [i16; 
         kept[k] = drp[40 + k];
     }
     result
+}
+
+/// 02, W-203: worked out by hand; all that is not 0 is d[0] and dp[-40].
+#[cfg(test)]
+mod tests {
+    use super::*;
+
+    #[test]
+    fn found_at_40_with_a_weak_gain() {
+        // scal is 1: 2 * 500 * 20000 is 20000000, rescaled 625000, a twentieth of the power.
+        assert_eq!(parameters(1000, 20000), (40, 0, true));
+    }
+
+    #[test]
+    fn found_at_40_with_a_sum_rescaled_to_0() {
+        // scal is 0: the sum is 2, rescaled 0.
+        assert_eq!(parameters(1, 1), (40, 0, true));
+    }
+
+    #[test]
+    fn rule_with_no_positive_sum() {
+        // The sum at lag 40 is -2, all the others are 0.
+        assert_eq!(parameters(1, -1), (40, 0, false));
+    }
+
+    /// 4.2.11: the parameters from d[0] and dp[-40].
+    fn parameters(first: i16, at_lag_40: i16) -> (i16, i16, bool) {
+        let mut d = [0; 40];
+        d[0] = first;
+        let mut dp = [0; 120];
+        dp[80] = at_lag_40;
+        ltp_parameters(&d, &dp)
+    }
 }

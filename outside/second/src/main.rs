@@ -92,8 +92,8 @@ fn tell_rest(rest: usize) {
 fn encode(input: &[u8], output: &mut dyn Write) -> io::Result<i16> {
     let mut state = encoder::encoder_home();
     for bytes in input.chunks_exact(320) {
-        let (frame, _ending) = encoder::encode(&mut state, &words_of(bytes));
-        write_words(output, &codewords::to_codewords(&frame))?;
+        let encoded = encoder::encode(&mut state, &words_of(bytes));
+        write_words(output, &codewords::to_codewords(&encoded.frame))?;
     }
     tell_rest(input.len() % 320);
     Ok(0)
@@ -187,8 +187,8 @@ fn encode_alaw(input: &[u8], output: &mut dyn Write) -> io::Result<i16> {
     for bytes in input.chunks_exact(160) {
         let mut octets = [0; 160];
         octets.copy_from_slice(bytes);
-        let (frame, _ending) = encoder::encode(&mut state, &samples_of_octets(&octets));
-        write_words(output, &codewords::to_codewords(&frame))?;
+        let encoded = encoder::encode(&mut state, &samples_of_octets(&octets));
+        write_words(output, &codewords::to_codewords(&encoded.frame))?;
     }
     tell_rest(input.len() % 160);
     Ok(0)

@@ -74,8 +74,8 @@ fn row_11_received_lags_from_home() {
 
 #[test]
 fn row_12_zero_frame_packed() {
-    let (frame, _ending) = encode(&mut encoder_home(), &[0; 160]);
-    let packed = pack(&to_codewords(&frame)).unwrap();
+    let encoded = encode(&mut encoder_home(), &[0; 160]);
+    let packed = pack(&to_codewords(&encoded.frame)).unwrap();
     assert_eq!(packed[0..5], [0x20, 0x48, 0x17, 0xD6, 0x84]);
 }
 
