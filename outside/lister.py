@@ -1,5 +1,5 @@
 """The programs' other runs: what the lister does with lengths, pieces, an input that cannot be read, an output that cannot be written, the limit; what
-encode and decode do with bytes left over, in 16 bits and in A-law; what outside/program says of them all.
+encode and decode do with bytes left over, in 16 bits and in A-law; what outside/program says of them all; what make run explains.
 
 They cannot set an exit status. What they can do is say it on standard error, and end."""
 import os
@@ -171,6 +171,18 @@ def explained():
     print(f'outside/program: -h says what each reads and writes: {", ".join(named)}')
 
 
+def quoted():
+    """recordings/lines.txt, which make run shows, quotes lines of the recording's listing and says which."""
+    with open(os.path.join(HERE, '..', 'recordings', 'lines.txt'), encoding='utf-8') as file:
+        text = file.read()
+    listing = ours('lister', speech()).decode().replace('\t', ' ').splitlines()
+    numbers = [int(number) for number in re.findall(r'\d+', re.search('these are lines (.*) and the last', text).group(1))]
+    lines, wanted = re.findall(r'^  ((?:RPELTP|F|S|E)(?: \S+)+)', text, re.M), [listing[number - 1] for number in numbers] + listing[-1:]
+    if lines != wanted:
+        raise Difference(f'recordings/lines.txt quotes {lines}; the lines that it names are {wanted}')
+    print(f'recordings/lines.txt: {len(lines)} lines are quoted as they stand in the listing')
+
+
 def told(name, status, said):
     # a shell and an emulator hand on death by SIGPIPE as 128 + 13
     died = status in (-13, 141)
@@ -188,6 +200,7 @@ def other_runs():
     unwritable()
     left_over()
     explained()
+    quoted()
     if emulated():
         print('NOT RUN: the limit of 1,000,000 frames, which takes minutes where the programs are emulated: make soak runs it')
     else:
