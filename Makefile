@@ -15,6 +15,7 @@ test: outside
 	rt ci
 
 outside: ready
+	cargo test --quiet --offline --manifest-path outside/second/Cargo.toml --target-dir build/tests
 	python3 outside/operations.py --compare crates/operations/stdout
 	python3 outside/operations.py --libgsm build/libgsm.so
 	python3 outside/trials.py outside/vectors --compare
