@@ -35,8 +35,9 @@ ENDINGS = ['silent', 'complete'] + [f'stop{n}' for n in range(1, 9)]
 MARKS = list(states.MARK_NAMES.values())
 # a lag of 40 that was found, though its gain code is 0 (02, W-203)
 FORTY = 'found 40 0'
+MARKED = MARKS + [FORTY]
 # what every run has to meet: stop1 is never reached
-MET = [name for name in ENDINGS + MARKS + [FORTY] if name != 'stop1']
+MET = [name for name in ENDINGS + MARKED if name != 'stop1']
 # and what the single calls that encode A-law have to: in one frame from home its tones do not stop the recursion later than at 6
 ALAW_MET = [f'A-law {name}' for name in MET if name not in ('stop7', 'stop8')]
 
@@ -46,6 +47,11 @@ def counts(counter, names):
 
 
 # ---- from home
+
+def lines_with(fields, listing):
+    """How many lines of a listing have these fields, beside each other."""
+    return listing.count('\t{}\t'.format(fields.replace(' ', '\t')).encode())
+
 
 def encoded(run, seed):
     """All parties on the samples of a run; what they made of it, and what was met, and of how many frames spandsp was held to it."""
@@ -59,7 +65,7 @@ def encoded(run, seed):
     same_words(run, seed, CODEWORDS, answers)
     listings = {'the second codec': peers.second('list', samples), 'ours': peers.ours('lister', samples)}
     same_lines(f'{run.name}, seed {seed}', samples, listings)
-    met = collections.Counter({name: listings['ours'].count('\t{}\t'.format(name.replace(' ', '\t')).encode()) for name in ENDINGS + MARKS + [FORTY]})
+    met = collections.Counter({name: lines_with(name, listings['ours']) for name in ENDINGS + MARKED})
     if sum(met[ending] for ending in ENDINGS) != run.frames() or sum(met[mark] for mark in MARKS) != 4 * run.frames():
         raise Difference(f'{run.name}: the listing has not an ending for each frame and a mark for each sub-frame')
     return coded, met, run.frames() if turned is None else turned
@@ -91,7 +97,7 @@ def from_home(seed, frames, kinds=None, recordings=()):
         coded.add(run.name, array('h', answer))
         total, all_met = total + run.frames(), all_met + met
         said = '' if held == run.frames() else f', spandsp to frame {held} alone, where it does not turn a sample over'
-        print(f'encoded: {run.name}: {run.frames()} frames of {len(run.parts)} signals; {counts(met, ENDINGS)}; {counts(met, MARKS + [FORTY])}{said}')
+        print(f'encoded: {run.name}: {run.frames()} frames of {len(run.parts)} signals; {counts(met, ENDINGS)}; {counts(met, MARKED)}{said}')
     for run in itertools.chain(signals.coded(seed, frames), [coded]):
         bad = decoded(run, seed)
         total, all_met['bad lags'] = total + run.frames(), all_met['bad lags'] + bad
@@ -162,7 +168,8 @@ def as_libgsm(seed, number, named, answer, peer):
 
 def forties(marks, codewords):
     """One for each sub-frame whose lag of 40 was found with gain code 0."""
-    return [FORTY for mark, start in zip(marks, signals.STARTS) if f'{mark} {codewords[start]} {codewords[start + 1]}' == FORTY]
+    shown = (f'{mark} {codewords[start]} {codewords[start + 1]}' for mark, start in zip(marks, signals.STARTS))
+    return [each for each in shown if each == FORTY]
 
 
 def met_by(name, record, answer):
@@ -206,7 +213,7 @@ def from_states(seed, count):
     total, met = calls(seed, count)
     print(f'calls: {total} records; refusal numbers met: {counts(met, states.DONE + states.REFUSALS)}; '
           f'libgsm from the same states: {met["libgsm"]}')
-    print(f'calls: {counts(met, ENDINGS)}; {counts(met, MARKS + [FORTY])}; {counts(met, states.CLIPS)}; {counts(met, ALAW_MET)}')
+    print(f'calls: {counts(met, ENDINGS)}; {counts(met, MARKED)}; {counts(met, states.CLIPS)}; {counts(met, ALAW_MET)}')
     wanted = [states.ON_PURPOSE + clip for clip in states.CLIPS] + states.DONE + states.REFUSALS + MET + ALAW_MET
     missing = [name for name in wanted if not met[name]]
     if missing:

@@ -176,8 +176,9 @@ def quoted():
     with open(os.path.join(HERE, '..', 'recordings', 'lines.txt'), encoding='utf-8') as file:
         text = file.read()
     listing = ours('lister', speech()).decode().replace('\t', ' ').splitlines()
-    numbers = [int(number) for number in re.findall(r'\d+', re.search('these are lines (.*) and the last', text).group(1))]
-    lines, wanted = re.findall(r'^  ((?:RPELTP|F|S|E)(?: \S+)+)', text, re.M), [listing[number - 1] for number in numbers] + listing[-1:]
+    numbers = re.findall(r'\d+', re.search('these are lines (.*) and the last', text).group(1))
+    wanted = [listing[int(number) - 1] for number in numbers] + listing[-1:]
+    lines = re.findall(r'^  ((?:RPELTP|F|S|E)(?: \S+)+)', text, re.M)
     if lines != wanted:
         raise Difference(f'recordings/lines.txt quotes {lines}; the lines that it names are {wanted}')
     print(f'recordings/lines.txt: {len(lines)} lines are quoted as they stand in the listing')

@@ -7,7 +7,7 @@ use lib.IntN.{ℤ, pos, _+ℤ_, _*ℤ_, *ℤ-comm}
 use mir.Syntax.{w16, w32}
 use mir.Val.{SFits}
 use Rattle.integers.specs.Halves.{P, N, apart, le-or-lt, zar, know}
-use Rattle.integers.specs.Sums.{add-is, mul-in, shr-is}
+use Rattle.integers.specs.Sums.{add-is, mul-is, mul-in, shr-is}
 use Rattle.standard.specs.Arithmetic.{_>>_, clip, mult, mult-r, L-mult}
 use Rattle.arithmetic.specs.Clip.{clip-is, clip-fits, clip-plain}
 
@@ -64,3 +64,10 @@ module _ (a b : ℤ) where
     pub L-mult-plain : L-mult a b ≡ a *ℤ b +ℤ a *ℤ b
     unfolding L-mult
     L-mult-plain = clip-plain (omega (zar, below, add-is (a *ℤ b) (a *ℤ b)))
+
+-- 0 times any number is 0
+pub L-mult-zero : (b : ℤ) → L-mult (pos 0) b ≡ pos 0
+L-mult-zero b =
+    let e = mul-is (pos 0) b in
+    let h = L-mult-in (pos 0) b 0 (omega arith) in
+    omega (zar, apart (L-mult (pos 0) b))

@@ -132,6 +132,15 @@ module _ (w : Width) (x : ℤ) where
   unfolding shl
   shl-exact n f = keep-plain f
 
+-- 0 stays 0
+pub shr-zero : (w : Width) (n : ℤ) → shr w (pos 0) n ≡ pos 0
+unfolding shr
+shr-zero w (pos n) = let b = down-in (pos 0) n 0 (omega arith) (omega arith) in omega (zar, apart (pos 0 >> n))
+shr-zero w (negsuc n) =
+    let z : 0 * 2 ^ suc n ≡ 0 = omega arith in
+    let f : SFits w (pos 0) = omega (zar, pow-pos (hbits w)) in
+    ap (λ (k : ℕ). keep w (pos k)) z ∙ keep-plain f
+
 -- ---- the low word of a long word, as the code extracts it: up to the top and back
 
 -- the low part of a number scaled up by c is that of the number, scaled up

@@ -9,6 +9,7 @@ use lib.ListN.{replicate}
 use Rattle.standard.specs.Arithmetic.{peak}
 use Rattle.standard.specs.Tables.{neg, _at_}
 use Rattle.standard.specs.House.{home-coder, home-decoder}
+use Rattle.standard.specs.Easy.{zeros, pulse}
 use Rattle.standard.specs.Answers as answers
 use Rattle.standard.specs.Opened.{opened}
 use Rattle.encoder.specs.Promise.{coder, encoder-of}
@@ -17,14 +18,10 @@ use Rattle.ends.specs.Together.{Ends, after, Handed, Shown, along, at-ho
 use Rattle.ends.specs.Soundly.{number}
 use Rattle.ends.specs.Outcomes.{Ask, encode, encode-alaw, decode, decode-alaw, call, calls, of-words, calls-made}
 
--- so many zeros: silence, or a buffer to be filled
-abbrev pub zeros : ℕ → List ℤ
-zeros n = replicate n (pos 0)
-
 -- a pulse every 40 samples
 unfoldable pub pulses : List ℤ
 unfolding flatten
-pulses = flatten (replicate 4 (pos 8000 ∷ zeros 39))
+pulses = flatten (replicate 4 (pulse (pos 8000)))
 
 -- its frame from home
 unfoldable pub first-frame : List ℤ

@@ -2,7 +2,7 @@
 use Prim.Native.Nat.{ℕ, zero, suc}
 use native.Mathlib.Omega.{arith}
 use mathlib.Core.Path.{_≡_, refl, sym, ap, subst, _∙_}
-use mathlib.Core.Bool.{Bool, true}
+use mathlib.Core.Bool.{Bool, true, false, true≢false}
 use mathlib.Core.Option.{Option, none, some}
 use mathlib.Core.List.{List, _∷_}
 use lib.IntN.{ℤ, pos, natAbs}
@@ -14,6 +14,7 @@ use Rattle.standard.specs.House as house
 use Rattle.standard.specs.House.{home-coder, home-decoder, sound-coder, sound-decoder}
 use Rattle.standard.specs.Answers as answers
 use Rattle.standard.specs.Opened.{opened}
+use Rattle.standard.specs.Easy.{zeros}
 use Rattle.standard.specs.ZeroFrame.{zero-frame}
 use Rattle.refusals.specs.Rows.{Exactly}
 use Rattle.refusals.specs.Calls.{encode-exactly, decode-exactly}
@@ -27,7 +28,7 @@ use Rattle.decoder.specs.declared.Decoder.{Decoder}
 use Rattle.decoder.specs.declared.Decoded.{Decoded}
 use Rattle.decoder.specs.Promise.{memory, Decodes, DecodesAlaw}
 use Rattle.decoder.specs.Calls as decoder
-use Rattle.ends.specs.Example.{zeros, idle, pulses, first-frame, second-frame}
+use Rattle.ends.specs.Example.{idle, pulses, first-frame, second-frame}
 use Rattle.ends.specs.Demands.{encode-refuses, encode-alaw-refuses, decode-refuses, decode-alaw-refuses}
 
 -- two numbers that are not the same
@@ -48,23 +49,18 @@ not-stopped (some lpc.silent) = Unit {0}
 not-stopped (some (lpc.stopped n)) = ⊥
 not-stopped (some lpc.complete) = Unit {0}
 
--- a mark that does not say rule, and one that does not say found
-not-rule : Option house.Mark → Type 0
-not-rule none = Unit {0}
-not-rule (some house.rule) = ⊥
-not-rule (some house.found) = Unit {0}
+-- a mark that says found
+says-found : Option house.Mark → Bool
+says-found none = false
+says-found (some house.rule) = false
+says-found (some house.found) = true
 
-not-found : Option house.Mark → Type 0
-not-found none = Unit {0}
-not-found (some house.rule) = Unit {0}
-not-found (some house.found) = ⊥
-
--- in a row of rules none says found
-all-rule : (n i : ℕ) → not-found (getD (replicate n (some house.rule)) i none)
-unfolding not-found
-all-rule zero i = tt
-all-rule (suc n) zero = tt
-all-rule (suc n) (suc i) = all-rule n i
+-- in a row of rules none does
+none-found : (n i : ℕ) → says-found (getD (replicate n (some house.rule)) i none) ≡ false
+unfolding says-found
+none-found zero i = refl
+none-found (suc n) zero = refl
+none-found (suc n) (suc i) = none-found n i
 
 -- ---- refusing all: what 01 does not refuse is done
 
@@ -190,22 +186,22 @@ module _ (e : Encoder) (h : coder e ≡ home-coder) (a : Encoded) (w : List ℤ)
 
   -- every lag marked "rule": that of the second pulse is found
   pub dropped-found : ¬ (a .marks .second ≡ Mark-of.Rule)
-  unfolding mark marks not-rule
+  unfolding mark marks says-found
   dropped-found s =
       let measured : mark (a .marks .second) ≡ some house.found
       = ap (λ ms. getD ms 1 none) (p .marks ∙ ap (λ c. answers.encode c pulses (zeros 76) .marks) h ∙ computed .marks)
       in
-      subst not-rule (sym measured ∙ ap mark s) tt
+      true≢false (ap says-found (sym measured ∙ ap mark s))
 
 -- every lag marked "found": in silence none is
 pub invented-found : (e : Encoder) → coder e ≡ home-coder → (a : Encoded) (w : List ℤ) → Encodes e (zeros 160) (zeros 76) a w
     → (i : ℕ) → ¬ (getD (marks (a .marks)) i none ≡ some house.found)
-unfolding not-found
+unfolding says-found
 invented-found e h a w p i s =
     let none-measured : marks (a .marks) ≡ replicate 4 (some house.rule)
     = p .marks ∙ ap (λ c. answers.encode c (zeros 160) (zeros 76) .marks) h ∙ computed .silent-marks
     in
-    subst not-found (ap (λ ms. getD ms i none) (sym none-measured) ∙ s) (all-rule 4 i)
+    true≢false (sym (ap says-found (ap (λ ms. getD ms i none) (sym none-measured) ∙ s)) ∙ none-found 4 i)
 
 -- the ending dropped: silence answered as complete
 pub dropped-ending : (e : Encoder) → coder e ≡ home-coder → (a : Encoded) (w : List ℤ) → Encodes e (zeros 160) (zeros 76) a w → ¬ (a .ending ≡ Ending-of.Complete)

@@ -1,21 +1,18 @@
 -- 02, W-203: what the lag mark says. It belongs to the search: a lag of 40 with gain code 0 may be found.
-use Prim.Native.Nat.{ℕ, zero, suc, _+_, _-_, _*_, _^_}
+use Prim.Native.Nat.{ℕ, zero, suc, _+_, _-_}
 use mathlib.Core.Path.{_≡_, refl, sym, ap, _∙_}
 use mathlib.Core.Bool.{Bool, true, false, cond, true≢false}
 use mathlib.Core.List.{List, [], _∷_, map, zipWith}
 use mathlib.Core.Logic.{_↔_}
 use native.Mathlib.Omega.{arith}
-use lib.IntN.{ℤ, pos, negsuc, natAbs}
+use lib.IntN.{ℤ, pos, natAbs}
 use lib.Signed.{ltZ}
 use lib.ListN.{replicate}
-use lib.Pow.{pow-pos}
-use mir.Val.{SFits, hbits}
-use mir.Syntax.{Width, w16, w32}
-use Rattle.integers.specs.Halves.{zar, apart}
-use Rattle.integers.specs.Sums.{mul-is}
+use mir.Syntax.{w16, w32}
+use Rattle.integers.specs.Halves.{zar}
 use Rattle.lists.specs.Best.{best, best-at, best-largest, largest-above, largest-covers}
 use Rattle.lists.specs.Tab.{tab-at}
-use Rattle.standard.specs.Arithmetic.{clip, plus, keep, shr, _>>_, L-mult, L-sum}
+use Rattle.standard.specs.Arithmetic.{clip, plus, shr, L-sum}
 use Rattle.standard.specs.Tables.{neg, _at_}
 use Rattle.standard.specs.Frame.{Subframe}
 use Rattle.standard.specs.LongTerm.{back, scal, correlations, lag-search, Nc, bc}
@@ -23,27 +20,27 @@ use Rattle.standard.specs.Coder.{sub-coded}
 use Rattle.standard.specs.House.{Mark, rule, found, mark}
 use Rattle.standard.specs.Easy.{pulse}
 use Rattle.standard.specs.Forty.{forty-back, forty}
-use Rattle.arithmetic.specs.Product.{L-mult-in}
-use Rattle.arithmetic.specs.Shift.{down-in, keep-plain}
+use Rattle.arithmetic.specs.Product.{L-mult-zero}
+use Rattle.arithmetic.specs.Shift.{shr-zero}
 use Rattle.lengths.specs.Subframes.{Lag, correlations-length, sub-coded-lag}
 
 -- ---- what it says
 
 -- the sum at a lag, before the rescaling, is positive
 abbrev pub positive-at : List ℤ → List ℤ → ℕ → Type 0
-positive-at d dp lag = ltZ (pos 0) (correlations d dp at (lag - 40)) ≡ true
+positive-at dp d lag = ltZ (pos 0) (correlations d dp at (lag - 40)) ≡ true
 
 -- some lag from 40 to 120 has a positive sum
 abbrev pub Measured : List ℤ → List ℤ → Type 0
-Measured d dp = (lag : ℕ) × Lag lag × positive-at d dp lag
+Measured dp d = (lag : ℕ) × Lag lag × positive-at dp d lag
 
 -- what a mark tells of the search in a history dp over d, and of the codewords f that are sent
 pub record Told (m : Mark) (dp d : List ℤ) (f : Subframe) : Type 0 where
   -- found exactly when some lag has a positive sum; then the lag that is sent has one
-  pub measured : (m ≡ found) ↔ Measured d dp
-  pub positive : m ≡ found → positive-at d dp (natAbs (f .Nc))
+  pub measured : (m ≡ found) ↔ Measured dp d
+  pub positive : m ≡ found → positive-at dp d (natAbs (f .Nc))
   -- rule exactly when none has; then lag 40 and gain code 0 are sent
-  pub unmeasured : (m ≡ rule) ↔ ¬ Measured d dp
+  pub unmeasured : (m ≡ rule) ↔ ¬ Measured dp d
   pub stands : m ≡ rule → (f .Nc ≡ pos 40) × (f .bc ≡ pos 0)
 
 -- ---- it is so
@@ -62,27 +59,12 @@ other : (m : Mark) → ¬ (m ≡ found) → m ≡ rule
 other rule n = refl
 other found n = absurd (n refl)
 
--- 0 is a number of any width, and shifted it is 0
-zero-fits : (w : Width) → SFits w (pos 0)
-zero-fits w = omega (zar, pow-pos (hbits w))
-
-zero-shifted : (w : Width) (n : ℤ) → shr w (pos 0) n ≡ pos 0
-unfolding shr
-zero-shifted w (pos n) = let b = down-in (pos 0) n 0 (omega arith) (omega arith) in omega (zar, apart (pos 0 >> n))
-zero-shifted w (negsuc n) = let z : 0 * 2 ^ suc n ≡ 0 = omega arith in ap (λ k. keep w (pos k)) z ∙ keep-plain (zero-fits w)
-
 -- a sum over silence is 0
-silent-product : (y : ℤ) → L-mult (pos 0) y ≡ pos 0
-silent-product y =
-    let e = mul-is (pos 0) y in
-    let b = L-mult-in (pos 0) y 0 (omega arith) in
-    omega (zar, apart (L-mult (pos 0) y))
-
 silent-sum : (f : ℤ → ℤ) → f (pos 0) ≡ pos 0 → (n : ℕ) (ys : List ℤ) → L-sum (pos 0) (map f (replicate n (pos 0))) ys ≡ pos 0
 unfolding L-sum zipWith plus clip
 silent-sum f e zero ys = refl
 silent-sum f e (suc n) [] = refl
-silent-sum f e (suc n) (y ∷ ys) = rw (e, silent-product y) (silent-sum f e n ys)
+silent-sum f e (suc n) (y ∷ ys) = rw (e, L-mult-zero y) (silent-sum f e n ys)
 
 module _ (dp d : List ℤ) where
   -- the mark tests the greatest sum
@@ -91,7 +73,7 @@ module _ (dp d : List ℤ) where
   says = tested _
 
   -- where it is found, the sum at the lag that is coded is positive
-  pub found-positive : mark (sub-coded dp d) ≡ found → positive-at d dp (natAbs (sub-coded dp d .codes .Nc))
+  pub found-positive : mark (sub-coded dp d) ≡ found → positive-at dp d (natAbs (sub-coded dp d .codes .Nc))
   unfolding lag-search Nc sub-coded
   found-positive m =
       let h : ltZ (pos 0) (best (correlations d dp) .sum) ≡ true = sym says ∙ ap says-found m in
@@ -99,7 +81,7 @@ module _ (dp d : List ℤ) where
       rw (e, best-at (correlations d dp) h .1) h
 
   -- found exactly when some lag has a positive sum
-  pub found-exactly : (mark (sub-coded dp d) ≡ found) ↔ Measured d dp
+  pub found-exactly : (mark (sub-coded dp d) ≡ found) ↔ Measured dp d
   unfolding mark sub-coded lag-search
   found-exactly = (
     λ m. (natAbs (sub-coded dp d .codes .Nc), sub-coded-lag dp d, found-positive m),
@@ -111,7 +93,7 @@ module _ (dp d : List ℤ) where
   )
 
   -- and rule exactly when none has
-  pub rule-exactly : (mark (sub-coded dp d) ≡ rule) ↔ ¬ Measured d dp
+  pub rule-exactly : (mark (sub-coded dp d) ≡ rule) ↔ ¬ Measured dp d
   rule-exactly = (
     λ m h. true≢false (sym (ap says-found (found-exactly .1 h)) ∙ ap says-found m),
     λ n. other (mark (sub-coded dp d)) (λ m. n (found-exactly .0 m)),
@@ -124,7 +106,7 @@ module _ (dp d : List ℤ) where
       let h : ltZ (pos 0) (lag-search d dp .sum) ≡ false = sym says ∙ ap says-found m in
       let a = largest-above (correlations d dp) in
       let z : lag-search d dp .sum ≡ pos 0 = omega zar in
-      (rw h, rw (z, zero-shifted w32))
+      (rw h, rw (z, shr-zero w32))
 
   -- so the mark of every sub-frame tells what it says
   pub told : Told (mark (sub-coded dp d)) dp d (sub-coded dp d .codes)
@@ -132,7 +114,7 @@ module _ (dp d : List ℤ) where
 
 -- ---- what was shown before: "rule" for every lag of 40 with gain code 0. A buzz of period 40 that fades is found
 
-pub rule-by-codes : ¬ ((dp d : List ℤ) → sub-coded dp d .codes .Nc ≡ pos 40 → sub-coded dp d .codes .bc ≡ pos 0 → mark (sub-coded dp d) ≡ rule)
+pub rule-by-codes : ¬ ((dp d : List ℤ) → let s = sub-coded dp d in s .codes .Nc ≡ pos 40 → s .codes .bc ≡ pos 0 → mark s ≡ rule)
 rule-by-codes h =
     let w = forty .weak in
     let r = h (forty-back (pos 20000)) (pulse (pos 1000)) (ap (λ t. t .0) w) (ap (λ t. t .1) w) in
@@ -156,5 +138,5 @@ silence-rule n dp =
     (λ (lag, l, p).
     let shifted : ℤ → ℤ = λ x. shr w16 x (scal d) in
     let t = tab-at (λ k. L-sum (pos 0) (map shifted d) (back k dp)) 40 81 (lag - 40) (pos 0) (omega arith) in
-    let z = t ∙ silent-sum shifted (zero-shifted w16 (scal d)) n (back (40 + (lag - 40)) dp) in
+    let z = t ∙ silent-sum shifted (shr-zero w16 (scal d)) n (back (40 + (lag - 40)) dp) in
     true≢false (sym (rw z at p)))

@@ -11,6 +11,7 @@ use Rattle.standard.specs.Rpe.{Mc}
 use Rattle.standard.specs.Worked.{lags-used}
 use Rattle.standard.specs.Opened.{opened}
 
+-- so many zeros: silence, or a buffer to be filled
 abbrev pub zeros : ℕ → List ℤ
 zeros n = replicate n (pos 0)
 

@@ -1,5 +1,5 @@
--- 02, W-203: the lag mark where the lag is 40 and its gain code 0, tried by computation. These two codewords do not tell whether anything was
--- measured; the mark does.
+-- 02, W-203: the lag mark where the lag is 40 and its gain code 0, tried by computation. These two codewords do not tell whether
+-- anything was measured; the mark does.
 use mathlib.Core.Path.{_≡_, refl}
 use mathlib.Core.List.{List, _++_}
 use lib.IntN.{ℤ, pos}
