@@ -1,5 +1,5 @@
 #!/usr/bin/env python3
-"""Holds our programs to the second codec, to libgsm on integers and to spandsp.
+"""Holds our programs, and the calls from C and from Rust, to the second codec, to libgsm on integers and to spandsp.
 
     python3 outside/compare.py --frames N --seed S        N made-up frames each way, N / 10 in A-law, and N / 5 single calls from any state
     python3 outside/compare.py --alaw                     all octets of A-law, all values, and the recording's listing
@@ -9,8 +9,8 @@
     python3 outside/compare.py --limit                    the lister at 1,000,000 frames
     python3 outside/compare.py --soak SECONDS --seed S    the first again and again, a new seed each round, and both ends back to back; recordings if there are any
 
-The programs are those of target/bin, the second codec is built in build/ from outside/second. Status 1: a difference, or a party that
-could not be had."""
+The programs are those of target/bin; those in C and in Rust, which outside/boundary.py builds, and the second codec, which is built from
+outside/second, are in build/. Status 1: a difference, or a party that could not be had."""
 import argparse
 import collections
 import itertools
@@ -228,7 +228,7 @@ def built():
     peers.build_second()
     libgsm.build()
     with open(libgsm.NAME, encoding='utf-8') as file:
-        print('parties: our programs; the second codec; spandsp; ' + file.read(), end='')
+        print('parties: our programs, and the calls from C and from Rust; the second codec; spandsp; ' + file.read(), end='')
 
 
 def comparison(seed, frames):

@@ -82,18 +82,18 @@ def fetch(folder):
     return os.path.basename(descriptions[0])[len('libgsm_'):-len('.dsc')], originals[0]
 
 
-def compile_library(folder, source):
+def compile_library(folder, source, library=LIBRARY, speed=('-O2',)):
     """Compiles the codec's files. Debian's patches are to its Makefile, its tools and its manual, and are not needed for that."""
     with tarfile.open(source) as archive:
         archive.extractall(folder)
     top = os.path.dirname(os.path.dirname(glob.glob(os.path.join(folder, '*', 'src', 'code.c'))[0]))
     shutil.copy(os.path.join(top, 'inc', 'private.h'), HEADER)
     files = [os.path.join('src', f'{name}.c') for name in CODEC]
-    flags = ['-O2', '-w', '-fPIC', '-shared', '-DSASR', '-DNeedFunctionPrototypes=1', '-Iinc']
-    status, said = run(['gcc', *flags, '-o', LIBRARY + '.new', *files], top)
+    flags = [*speed, '-w', '-fPIC', '-shared', '-DSASR', '-DNeedFunctionPrototypes=1', '-Iinc']
+    status, said = run(['gcc', *flags, '-o', library + '.new', *files], top)
     if status != 0:
         raise Missing(f'libgsm could not be compiled:\n{said}')
-    os.replace(LIBRARY + '.new', LIBRARY)
+    os.replace(library + '.new', library)
     return ' '.join(['gcc', *flags])
 
 

@@ -10,7 +10,9 @@ ghost use Rattle.standard.specs.Decoder as standard;
 ghost use Rattle.standard.specs.House.{home-decoder, sound-decoder};
 ghost use Rattle.decoder.specs.Promise.{memory, Decodes, DecodesAlaw, refused};
 
-// 4.3: what is kept for the next frame. drp holds the residual's last 120 samples, the oldest first; nrp is the remembered lag.
+// 4.3: what is kept for the next frame. drp holds the residual's last 120 samples, the oldest first; nrp is the remembered lag. A caller in
+// C has the same struct.
+#[repr(C)]
 pub struct Decoder {
     pub drp: [i16; 120],
     pub nrp: i16,
@@ -19,10 +21,11 @@ pub struct Decoder {
     pub msr: i16,
 }
 
-// The answer: the refusal number, 0 where it is done, and the state to go on with.
+// The answer: the state to go on with, and the refusal number, 0 where it is done. It crosses to C too: 278 bytes, no padding.
+#[repr(C)]
 pub struct Decoded {
-    pub number: u8,
     pub state: Decoder,
+    pub number: u16,
 }
 
 // 4.3, the whole: 76 codewords, 160 samples, and the state after them.
@@ -62,7 +65,7 @@ fn sound(m: Decoder) -> bool
 }
 
 // A refusal: the number, and the state as handed in.
-fn refuse(number: u8, m: Decoder) -> Decoded
+fn refuse(number: u16, m: Decoder) -> Decoded
     ensures { λ r. ⌜ r ≡ refused number m ⌝ }
 {
     Decoded {

@@ -21,10 +21,12 @@ ghost use Rattle.lists.specs.Parts.{put};
 ghost use Rattle.encoder.specs.Subframes.{own, before, four-added, four-words, four-marks};
 ghost use Rattle.encoder.specs.Whole.{coded-marks};
 
-// 4.2: what is kept for the next frame. dp holds the residual's last 120 samples, the oldest first.
+// 4.2: what is kept for the next frame. dp holds the residual's last 120 samples, the oldest first. A caller in C has the same struct: the
+// widest value stands first, so that it has no padding.
+#[repr(C)]
 pub struct Encoder {
-    pub z1: i16,
     pub l_z2: i32,
+    pub z1: i16,
     pub mp: i16,
     pub larpp: [i16; 8],
     pub u: [i16; 8],

@@ -22,14 +22,14 @@ use Rattle.encoder.specs.declared.Encoder.{Encoder}
 use Rattle.encoder.specs.declared.Ending.the-variants as Ending-of
 use Rattle.encoder.specs.declared.Mark.the-variants as Mark-of
 use Rattle.encoder.specs.declared.Encoded.{Encoded}
-use Rattle.encoder.specs.Promise.{coder, ending, mark, marks, Encodes}
+use Rattle.encoder.specs.Promise.{coder, ending, mark, marks, Encodes, refused}
 use Rattle.encoder.specs.Calls as encoder
 use Rattle.decoder.specs.declared.Decoder.{Decoder}
 use Rattle.decoder.specs.declared.Decoded.{Decoded}
 use Rattle.decoder.specs.Promise.{memory, Decodes, DecodesAlaw}
 use Rattle.decoder.specs.Calls as decoder
 use Rattle.ends.specs.Example.{idle, pulses, first-frame, second-frame}
-use Rattle.ends.specs.Demands.{encode-refuses, encode-alaw-refuses, decode-refuses, decode-alaw-refuses}
+use Rattle.ends.specs.Demands.{encode-refuses, encode-hands-back, encode-alaw-refuses, decode-refuses, decode-alaw-refuses}
 
 -- two numbers that are not the same
 unlike : (m n : ℕ) → ¬ (m ≡ n) → ¬ (pos m ≡ pos n)
@@ -41,6 +41,11 @@ not-complete none = Unit {0}
 not-complete (some lpc.silent) = Unit {0}
 not-complete (some (lpc.stopped n)) = Unit {0}
 not-complete (some lpc.complete) = ⊥
+
+-- an ending that is one
+not-absent : Option lpc.Ending → Type 0
+not-absent none = ⊥
+not-absent (some e) = Unit {0}
 
 -- an ending that is no stop
 not-stopped : Option lpc.Ending → Type 0
@@ -141,6 +146,25 @@ computed = record {
 }
 
 -- ---- so no outcome that keeps the promise is one of these
+
+module _ (e : Encoder) (h : coder e ≡ home-coder) where
+  -- a home with something in the pre-emphasis cell
+  pub emphasised-home : (n : ℕ) → ¬ (e .mp ≡ pos (suc n))
+  unfolding coder home-coder
+  emphasised-home n p = unlike (suc n) 0 (omega arith) (sym p ∙ ap (λ c. c .mp) h)
+
+  -- or in the offset filter
+  pub offset-home : (n : ℕ) → ¬ (e .«l_z2» ≡ pos (suc n))
+  unfolding coder home-coder
+  offset-home n p = unlike (suc n) 0 (omega arith) (sym p ∙ ap (λ c. c .L-z2) h)
+
+-- a refusal that says an ending
+pub refused-as-silent : (e : Encoder) (samples lent : List ℤ) (a : Encoded) (left : List ℤ) → Encodes e samples lent a left
+    → (n : ℕ) → a .number ≡ suc n → ¬ (a .ending ≡ Ending-of.Silent)
+unfolding ending refused not-absent
+refused-as-silent e samples lent a left p n h s =
+    let none-said : a .ending ≡ Ending-of.Absent = ap (λ (b : Encoded). b .ending) (encode-hands-back e samples lent a left p n h .0) in
+    subst not-absent (ap ending (sym s ∙ none-said)) tt
 
 module _ (e : Encoder) (h : coder e ≡ home-coder) (a : Encoded) (w : List ℤ) (p : Encodes e pulses (zeros 76) a w) where
   -- the frame is the one computed

@@ -1,0 +1,98 @@
+#!/usr/bin/env python3
+"""Draws bench/results.svg from bench/results.tsv, and from nothing else: python3 bench/picture.py.
+
+A bar for each row, as long as its frames a second; beside it the ratio to libgsm, and that number. One scale for each
+direction, so that speech and noise compare."""
+import os
+from xml.sax.saxutils import escape
+
+HERE = os.path.dirname(os.path.abspath(__file__))
+TABLE, PICTURE = os.path.join(HERE, 'results.tsv'), os.path.join(HERE, 'results.svg')
+WIDTH, LEFT, LONGEST, BAR, STEP = 900, 290, 430, 18, 25
+TITLE = 'GSM full-rate speech: how many times libgsm (integers, -O2), and frames a second'
+FONT = 'font-family="DejaVu Sans, Verdana, Helvetica, Arial, sans-serif"'
+INK, BOLD, PALE = 'fill="#1b1b1b"', 'fill="#1b1b1b" font-weight="bold"', 'fill="#5c5c5c"'
+STYLE = {'ours': 'fill="#0b5394"', 'right': 'fill="#e3a33a"', 'other': 'fill="url(#hatched)" stroke="#7a7a7a"'}
+LEGEND = (('ours', 'ours'), ('right', 'others, the right bits'), ('other', 'others, other bits'))
+TOLD = ('processor', 'compilers', 'time', 'ours', 'missing', 'frames')
+HATCH = ('<defs><pattern id="hatched" width="6" height="6" patternUnits="userSpaceOnUse" patternTransform="rotate(45)">'
+         '<rect width="6" height="6" fill="#f2f2f2"/><rect width="2" height="6" fill="#9a9a9a"/></pattern></defs>')
+
+
+def read():
+    """The rows of the table by direction and material, and its notes."""
+    panels, notes = {}, []
+    with open(TABLE, encoding='utf-8') as file:
+        for line in file.read().splitlines()[1:]:
+            if line.startswith('#'):
+                notes.append(line[1:].strip())
+            else:
+                direction, material, *row = line.split('\t')
+                panels.setdefault((direction, material), []).append(row)
+    return panels, notes
+
+
+def text(x, y, words, size=13, style=INK):
+    return f'<text x="{x:.0f}" y="{y:.0f}" font-size="{size}" {style}>{escape(words)}</text>'
+
+
+def kind(codec, right):
+    return 'ours' if codec.split(',')[0] == 'ours' else 'right' if right == 'yes' else 'other'
+
+
+def bar(y, row, longest):
+    codec, frames, ratio, right = row
+    size, line = LONGEST * int(frames) / longest, y + BAR - 5
+    yield text(LEFT - 10, line, codec, 13, f'{INK} text-anchor="end"')
+    yield f'<rect x="{LEFT}" y="{y:.0f}" width="{size:.1f}" height="{BAR}" {STYLE[kind(codec, right)]}/>'
+    if ratio != '-':
+        yield text(LEFT + size + 8, line, f'{ratio} times', 13, BOLD)
+    yield text(LEFT + size + 94, line, f'{int(frames):,}', 12, PALE)
+
+
+def legend(y):
+    x = LEFT
+    for name, words in LEGEND:
+        yield f'<rect x="{x}" y="{y - 12}" width="16" height="14" {STYLE[name]}/>'
+        yield text(x + 22, y, words)
+        x += 60 + 8 * len(words)
+
+
+def wrapped(words, most=130):
+    lines = ['']
+    for word in words.split():
+        if len(lines[-1]) + len(word) >= most:
+            lines.append('')
+        lines[-1] += f' {word}' if lines[-1] else word
+    return lines
+
+
+def drawing(panels, notes):
+    """What is drawn, and how high it is."""
+    y = 62
+    drawn = [text(20, 34, TITLE, 17, BOLD), *legend(y)]
+    for (direction, material), rows in panels.items():
+        longest = max(int(row[1]) for (way, _), others in panels.items() if way == direction for row in others)
+        y += 36
+        drawn.append(text(20, y, f'{direction}, {material}', 15, BOLD))
+        y += 10
+        for row in rows:
+            drawn += bar(y, row, longest)
+            y += STEP
+    y += 16
+    for line in (line for note in notes if note.split(':')[0] in TOLD for line in wrapped(note)):
+        drawn.append(text(20, y, line, 11.5, PALE))
+        y += 16
+    return drawn, y + 8
+
+
+def draw():
+    drawn, height = drawing(*read())
+    size = f'width="{WIDTH}" height="{height}"'
+    head = f'<svg xmlns="http://www.w3.org/2000/svg" {size} viewBox="0 0 {WIDTH} {height}" {FONT}>'
+    with open(PICTURE, 'w', encoding='utf-8') as file:
+        file.write('\n'.join([head, HATCH, f'<rect {size} fill="#ffffff"/>', *drawn, '</svg>']) + '\n')
+
+
+if __name__ == '__main__':
+    draw()

@@ -1,0 +1,99 @@
+-- No flag is lost on the way to C: each ending and each mark has a number of its own, and 0 stands in an answer exactly where encode refused.
+use Prim.Native.Nat.{ℕ, zero, suc, _+_, _-_, _<_}
+use mathlib.Core.Path.{_≡_, refl, sym, ap, _∙_}
+use mathlib.Core.Bool.{true}
+use mathlib.Core.Option.{Option, none, some}
+use mathlib.Core.List.{List, [], _∷_, map}
+use native.Mathlib.Omega.{arith}
+use lib.IntN.{ℤ}
+use lib.Dec.{ltb}
+use lib.ListN.{replicate}
+use Rattle.lists.specs.Every.{every}
+use Rattle.standard.specs.Lpc as lpc
+use Rattle.standard.specs.House as house
+use Rattle.standard.specs.House.{encode-refusal}
+use Rattle.standard.specs.Coder.{Subcoded, coded}
+use Rattle.encoder.specs.declared.Encoder.{Encoder}
+use Rattle.encoder.specs.Promise.{coder}
+use Rattle.refusals.specs.Calls.{encode-done, encode-refused}
+use Rattle.boundary.specs.declared.EncodeAnswer.{EncodeAnswer}
+use Rattle.boundary.specs.Promise.{ending-number, mark-number, encode-answer, Encodes}
+
+-- ---- each has a number of its own
+
+-- an ending is read back from its number
+abbrev ending-of : ℕ → Option lpc.Ending
+ending-of zero = none
+ending-of (suc zero) = some lpc.silent
+ending-of (suc (suc zero)) = some lpc.complete
+ending-of (suc (suc (suc n))) = some (lpc.stopped (n - 13))
+
+-- each case comes back
+ending-back : (e : Option lpc.Ending) → ending-of (ending-number e) ≡ e
+unfolding ending-number
+ending-back none = refl
+ending-back (some lpc.silent) = refl
+ending-back (some lpc.complete) = refl
+ending-back (some (lpc.stopped n)) =
+    let three : 16 + n ≡ suc (suc (suc (13 + n))) = omega arith in
+    let place : 13 + n - 13 ≡ n = omega arith in
+    ap ending-of three ∙ ap (λ k. some (lpc.stopped k)) place
+
+-- so two endings of the same number are one
+pub one-ending : (e f : Option lpc.Ending) → ending-number e ≡ ending-number f → e ≡ f
+one-ending e f p = sym (ending-back e) ∙ ap ending-of p ∙ ending-back f
+
+-- a mark is read back too
+abbrev mark-of : ℕ → Option house.Mark
+mark-of zero = none
+mark-of (suc zero) = some house.rule
+mark-of (suc (suc n)) = some house.found
+
+-- each case comes back
+mark-back : (m : Option house.Mark) → mark-of (mark-number m) ≡ m
+unfolding mark-number
+mark-back none = refl
+mark-back (some house.rule) = refl
+mark-back (some house.found) = refl
+
+-- so two marks of the same number are one
+pub one-mark : (m n : Option house.Mark) → mark-number m ≡ mark-number n → m ≡ n
+one-mark m n p = sym (mark-back m) ∙ ap mark-of p ∙ mark-back n
+
+-- ---- 0 exactly where encode refused
+
+-- an ending's number is not 0
+ended : (x : lpc.Ending) → 0 < ending-number (some x)
+unfolding ending-number
+ended lpc.silent = omega arith
+ended lpc.complete = omega arith
+ended (lpc.stopped n) = omega arith
+
+-- nor is a mark's
+marked : (m : house.Mark) → ltb 0 (mark-number (some m)) ≡ true
+unfolding mark-number
+marked house.rule = refl
+marked house.found = refl
+
+-- nor is any of a frame's
+all-marked : (xs : List Subcoded) → every (ltb 0) (map mark-number (map (λ s. some (house.mark s)) xs)) ≡ true
+unfolding every
+all-marked [] = refl
+all-marked (x ∷ xs) = rw (marked (house.mark x)) (all-marked xs)
+
+module _ (e : Encoder) (samples lent : List ℤ) (a : EncodeAnswer) (left : List ℤ) (p : Encodes e samples lent a left) where
+  -- a refusal hands back the state as it was, no ending and no mark, and leaves the codewords as they were lent
+  pub encode-hands-back : (n : ℕ) → encode-refusal (coder e) samples lent ≡ suc n
+      → (a ≡ record { state = e; number = suc n; ending = 0; marks = replicate 4 0 }) × (left ≡ lent)
+  unfolding encode-answer ending-number mark-number coder
+  encode-hands-back n h =
+      let r = encode-refused (coder e) samples lent n h in
+      (rw r at (p .answer), rw r at (p .codewords))
+
+  -- what is done has an ending, and a mark for each lag
+  pub encode-says : encode-refusal (coder e) samples lent ≡ 0 → (0 < a .ending) × (every (ltb 0) (a .marks) ≡ true)
+  unfolding encode-answer
+  encode-says h =
+      let t = coded (coder e) samples .1 in
+      let r = rw (encode-done (coder e) samples lent h) at (p .answer) in
+      (rw r (ended (t .ending)), rw r (all-marked (t .subframes)))
