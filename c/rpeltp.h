@@ -1,4 +1,4 @@
-/* rpeltp.h: GSM full-rate speech (RPE-LTP, ETS 300 961), encoder and decoder, from C or C++.
+/* rpeltp.h: GSM full-rate speech (RPE-LTP, ETS 300 961), encoder and decoder, from C11 or C++11 on.
 
    The code behind these calls is proved: every call ends, on any samples, codewords and state;
    what is wrong is refused by number, and a refusal hands back the state it was given and writes
