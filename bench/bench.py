@@ -1,10 +1,10 @@
 #!/usr/bin/env python3
 """Measures our codec beside the others, in one process: `make bench`, or python3 bench/bench.py.
 
-Writes bench/results.tsv, bench/channels.tsv and bench/results.svg. ROUNDS in the environment says how many rounds are
-timed: 101, which take a minute or two; 5 take seconds. What is missing is installed as Debian's packages where that can
-be done; a peer that cannot be had is said to be missing, and the rest is measured. Status 1: nothing could be compiled,
-or ours has other bits than libgsm, and then nothing is timed."""
+Writes bench/results.tsv, bench/channels.tsv, bench/notes.txt and bench/results.svg. ROUNDS in the environment says how
+many rounds are timed: 101, which take a minute or two; 5 take seconds. What is missing is installed as Debian's
+packages where that can be done; a peer that cannot be had is said to be missing, and the rest is measured. Status 1:
+nothing could be compiled, or ours has other bits than libgsm, and then nothing is timed."""
 import os
 import platform
 import random

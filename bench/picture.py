@@ -1,5 +1,5 @@
 #!/usr/bin/env python3
-"""Draws bench/results.svg from bench/results.tsv, and from nothing else: python3 bench/picture.py.
+"""Draws bench/results.svg from bench/results.tsv and bench/notes.txt: python3 bench/picture.py.
 
 A bar for each row, as long as its frames a second; beside it the ratio to libgsm, and that number. One scale for each
 direction, so that speech and noise compare."""
@@ -7,7 +7,7 @@ import os
 from xml.sax.saxutils import escape
 
 HERE = os.path.dirname(os.path.abspath(__file__))
-TABLE, PICTURE = os.path.join(HERE, 'results.tsv'), os.path.join(HERE, 'results.svg')
+TABLE, NOTES, PICTURE = (os.path.join(HERE, name) for name in ('results.tsv', 'notes.txt', 'results.svg'))
 WIDTH, LEFT, LONGEST, BAR, STEP = 900, 290, 430, 18, 25
 TITLE = 'GSM full-rate speech: how many times libgsm (integers, -O2), and frames a second'
 FONT = 'font-family="DejaVu Sans, Verdana, Helvetica, Arial, sans-serif"'
@@ -20,16 +20,14 @@ HATCH = ('<defs><pattern id="hatched" width="6" height="6" patternUnits="userSpa
 
 
 def read():
-    """The rows of the table by direction and material, and its notes."""
-    panels, notes = {}, []
+    """The rows of the table by direction and material, and the notes."""
+    panels = {}
     with open(TABLE, encoding='utf-8') as file:
         for line in file.read().splitlines()[1:]:
-            if line.startswith('#'):
-                notes.append(line[1:].strip())
-            else:
-                direction, material, *row = line.split('\t')
-                panels.setdefault((direction, material), []).append(row)
-    return panels, notes
+            direction, material, *row = line.split('\t')
+            panels.setdefault((direction, material), []).append(row)
+    with open(NOTES, encoding='utf-8') as file:
+        return panels, file.read().splitlines()
 
 
 def text(x, y, words, size=13, style=INK):

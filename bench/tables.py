@@ -1,7 +1,7 @@
 """Makes the tables of what bench and state say: bench/results.tsv and bench/channels.tsv, and the same to read.
 
-Each file has its header, its rows, and then lines that begin with # and say what a reader has to know: on which
-processor, by which compilers, what is missing."""
+A table has its header and its rows. What a reader has to know of both is in bench/notes.txt: on which processor, by
+which compilers, what is missing."""
 import os
 import platform
 import re
@@ -186,12 +186,16 @@ def channel_notes(said):
 
 # ---- files, and the same to read
 
+def all_notes(said):
+    return dict.fromkeys([*result_notes(said), *channel_notes(said)])
+
+
 def write(said):
-    for name, header, rows, notes in (('results.tsv', RESULTS, result_rows, result_notes),
-                                      ('channels.tsv', CHANNELS, channel_rows, channel_notes)):
+    for name, header, rows in (('results.tsv', RESULTS, result_rows), ('channels.tsv', CHANNELS, channel_rows)):
         with open(os.path.join(HERE, name), 'w', encoding='utf-8') as file:
             file.writelines('\t'.join(map(str, row)) + '\n' for row in (header, *rows(said)))
-            file.writelines(f'# {note}\n' for note in notes(said))
+    with open(os.path.join(HERE, 'notes.txt'), 'w', encoding='utf-8') as file:
+        file.writelines(f'{note}\n' for note in all_notes(said))
 
 
 def aligned(header, rows):
@@ -219,7 +223,7 @@ def side_by_side(said):
 def show(said):
     """All of it to read: the notes, why what is missing is, and the tables last."""
     print()
-    for note in dict.fromkeys([*result_notes(said), *channel_notes(said)]):
+    for note in all_notes(said):
         if not note.startswith('missing:'):
             print(note)
     for name, reason in said.missing.items():
@@ -229,4 +233,4 @@ def show(said):
     print('frames a second with 1 and more channels')
     header, *rows = side_by_side(said)
     aligned(header, rows)
-    print('written: bench/results.tsv, bench/channels.tsv, bench/results.svg')
+    print('written: bench/results.tsv, bench/channels.tsv, bench/notes.txt, bench/results.svg')

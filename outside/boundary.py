@@ -21,6 +21,13 @@ from differences import Difference, same_bytes
 ROOT = os.path.normpath(layout.ROOT)
 BUILD, VECTORS = os.path.join(ROOT, 'build'), os.path.join(ROOT, 'outside', 'vectors', 'calls')
 ARCHIVE, CARGO = os.path.join(BUILD, 'lib', 'librpeltp.a'), os.path.join(ROOT, 'outside', 'cargo86')
+# the programs as they are compiled; build/NAME runs each, on either kind of machine
+COMPILED = os.path.join(BUILD, 'x86')
+LAUNCHER = """#!/bin/sh
+# Runs the program of this name in build/x86, as it is or under the emulator.
+here=$(cd "$(dirname "$0")" && pwd -P)
+exec "$here/../outside/x86" run "$here/x86/${0##*/}" "$@"
+"""
 FLAGS = ['-std=gnu11', '-Wall', '-Wextra', '-Wpedantic', '-Werror']
 PROGRAMS = {'calls': 'c/tests/calls.c', 'stream': 'c/tests/stream.c', 'refusals': 'c/tests/refusals.c', 'example': 'c/example.c'}
 RUST_EXAMPLE = os.path.join(os.path.dirname(peers.RUST), 'frames')
@@ -44,8 +51,12 @@ def compiled(source, program, *flags, include='c'):
 
 
 def build():
+    os.makedirs(COMPILED, exist_ok=True)
     for name, source in PROGRAMS.items():
-        compiled(source, os.path.join(BUILD, name), '-O2')
+        compiled(source, os.path.join(COMPILED, name), '-O2')
+        with open(os.path.join(BUILD, name), 'w', encoding='utf-8') as file:
+            file.write(LAUNCHER)
+        os.chmod(file.name, 0o755)
     peers.run([CARGO, 'build', '--release', '--examples'], b'')
 
 
@@ -58,14 +69,14 @@ def run(program, given=b'', *words):
 def every_length():
     """Every wrong length, by a program compiled in several ways."""
     for flags in (['-O0'], ['-O2'], ['-O3', '-fno-pie', '-no-pie'], ['-O2', '-static']):
-        said = run(compiled(PROGRAMS['refusals'], os.path.join(BUILD, 'refusals-tried'), *flags))
+        said = run(compiled(PROGRAMS['refusals'], os.path.join(COMPILED, 'refusals-tried'), *flags))
         print(f'{said.decode().strip()} ({" ".join(flags)})')
 
 
 def recorded():
     """The stored records, and that the fields could not be exchanged unseen."""
     asked, answered = contents(VECTORS, 'asked.raw'), contents(VECTORS, 'answered.raw')
-    same_bytes('calls', ('the stored answers', answered), ('ours from C', run(os.path.join(BUILD, 'calls'), asked)))
+    same_bytes('calls', ('the stored answers', answered), ('ours from C', run(os.path.join(COMPILED, 'calls'), asked)))
     header, folder, made = layout.read(layout.HEADER), os.path.join(BUILD, 'exchanged'), 0
     os.makedirs(folder, exist_ok=True)
     for what, text in layout.altered(header):
@@ -85,8 +96,8 @@ def undefined():
     """The C side with undefined behaviour checked."""
     flags = ['-O1', '-g', '-fsanitize=undefined', '-fno-sanitize-recover=all']
     for name, given in (('calls', contents(VECTORS, 'asked.raw')), ('refusals', b'')):
-        program = compiled(PROGRAMS[name], os.path.join(BUILD, f'{name}-tried'), *flags)
-        expected = run(os.path.join(BUILD, name), given)
+        program = compiled(PROGRAMS[name], os.path.join(COMPILED, f'{name}-tried'), *flags)
+        expected = run(os.path.join(COMPILED, name), given)
         same_bytes(f'{name}, checked', ('the program', expected), ('the checked one', run(program, given)))
     print('undefined behaviour of the C side: none in calls and refusals')
 
@@ -98,15 +109,15 @@ def watched():
               'every lent buffer ended at memory that may not be touched')
         return
     valgrind = ['valgrind', '--quiet', '--error-exitcode=9', '--leak-check=no']
-    probe = subprocess.run([*valgrind, os.path.join(BUILD, 'stream'), 'encode'], stdin=subprocess.DEVNULL,
+    probe = subprocess.run([*valgrind, os.path.join(COMPILED, 'stream'), 'encode'], stdin=subprocess.DEVNULL,
                            stdout=subprocess.PIPE, stderr=subprocess.STDOUT, text=True)
     if probe.returncode != 0:
         print(f'{NOT_RUN}Valgrind, which does not start: {probe.stdout.strip()}')
         return
     asked, answered = contents(VECTORS, 'asked.raw'), contents(VECTORS, 'answered.raw')
-    answers = peers.run([*valgrind, os.path.join(BUILD, 'calls')], asked)
+    answers = peers.run([*valgrind, os.path.join(COMPILED, 'calls')], asked)
     same_bytes('calls under Valgrind', ('the stored answers', answered), ('ours from C', answers))
-    peers.run([*valgrind, os.path.join(BUILD, 'refusals'), '16'], b'')
+    peers.run([*valgrind, os.path.join(COMPILED, 'refusals'), '16'], b'')
     print('Valgrind: calls and refusals, nothing found')
 
 
@@ -129,7 +140,7 @@ def examples():
     speech = contents(ROOT, 'recordings', 'speech.raw')
     for samples in (speech, speech[:-7], b'', b'\x01'):
         expected = listed(samples)
-        same_bytes('the example in C', ('the lister', expected), ('C', run(os.path.join(BUILD, 'example'), samples)))
+        same_bytes('the example in C', ('the lister', expected), ('C', run(os.path.join(COMPILED, 'example'), samples)))
         same_bytes('the example in Rust', ('the lister', expected), ('Rust', run(RUST_EXAMPLE, samples)))
     print(f'examples: {len(speech) // 320} frames and what is left over, the same from C, from Rust and by the lister')
 
@@ -157,7 +168,7 @@ def from_there(prefix):
     version = peers.run(['pkg-config', '--modversion', 'rpeltp'], b'')
     same_bytes('pkg-config', ('VERSION', contents(ROOT, 'VERSION')), ('rpeltp.pc', version))
     flags = peers.run(['pkg-config', '--cflags', '--libs', 'rpeltp'], b'').decode().split()
-    speech, program = contents(ROOT, 'recordings', 'speech.raw'), os.path.join(BUILD, 'example-installed')
+    speech, program = contents(ROOT, 'recordings', 'speech.raw'), os.path.join(COMPILED, 'example-installed')
     peers.run([peers.X86, 'cc', '-o', program, os.path.join(ROOT, PROGRAMS['example']), *flags], b'')
     same_bytes(f'the example over {prefix}', ('the lister', listed(speech)), ('C', run(program, speech)))
     names = sorted(os.listdir(os.path.join(prefix, 'bin')))

@@ -4,5 +4,6 @@ pub mod Together
 pub mod Demands
 pub mod Soundly
 pub mod Outcomes
+pub mod Crossing
 pub mod Example
 pub mod Useless
