@@ -3,10 +3,11 @@
 
     python3 outside/boundary.py --build     the programs of c/ and of rust/, to build/
     python3 outside/boundary.py             the trials, over what was built
-    python3 outside/boundary.py --installed FOLDER ARCHIVE      what make install put in a folder, and make dist in an archive
+    python3 outside/boundary.py --installed FOLDER ARCHIVE
+                                            what make install put in a folder, and make dist in an archive
 
-Compared with other codecs they are by outside/compare.py, to which these programs are parties. Status 1: a difference, or something that
-could not be built."""
+Compared with other codecs they are by outside/compare.py, to which these programs are parties. Status 1: a
+difference, or something that could not be built."""
 import os
 import platform
 import re
@@ -29,7 +30,8 @@ here=$(cd "$(dirname "$0")" && pwd -P)
 exec "$here/../outside/x86" run "$here/x86/${0##*/}" "$@"
 """
 FLAGS = ['-std=gnu11', '-Wall', '-Wextra', '-Wpedantic', '-Werror']
-PROGRAMS = {'calls': 'c/tests/calls.c', 'stream': 'c/tests/stream.c', 'refusals': 'c/tests/refusals.c', 'example': 'c/example.c'}
+PROGRAMS = {'calls': 'c/tests/calls.c', 'stream': 'c/tests/stream.c', 'refusals': 'c/tests/refusals.c',
+            'example': 'c/example.c'}
 RUST_EXAMPLE = os.path.join(os.path.dirname(peers.RUST), 'frames')
 NATIVE = platform.machine() == 'x86_64'
 # what is written where something is not run, so that nobody takes it for passed
@@ -89,7 +91,8 @@ def recorded():
             raise Difference(f'calls: not seen: {what}')
         made += 1
     shutil.rmtree(folder)
-    print(f'calls: {len(asked) // 1536} stored records, no difference; {made} headers with two fields exchanged are each seen')
+    print(f'calls: {len(asked) // 1536} stored records, no difference; '
+          f'{made} headers with two fields exchanged are each seen')
 
 
 def undefined():
@@ -103,7 +106,7 @@ def undefined():
 
 
 def watched():
-    """Under Valgrind, which sees what the archive itself reads and writes. It runs the code of its own kind of machine alone."""
+    """Under Valgrind, which sees what the archive itself reads and writes, on the kind of machine that it is for."""
     if not NATIVE:
         print(f'{NOT_RUN}Valgrind, which does not run x86-64 code on this kind of machine; '
               'every lent buffer ended at memory that may not be touched')
@@ -153,7 +156,8 @@ def in_c_plus_plus():
 
 def rust():
     """The crate's own tests, those in its documentation among them."""
-    done = subprocess.run([CARGO, 'test'], stdin=subprocess.DEVNULL, stdout=subprocess.PIPE, stderr=subprocess.STDOUT, text=True)
+    done = subprocess.run([CARGO, 'test'], stdin=subprocess.DEVNULL, stdout=subprocess.PIPE,
+                          stderr=subprocess.STDOUT, text=True)
     told = re.findall(r'^test result: ok\. (\d+) passed; 0 failed', done.stdout, re.M)
     if done.returncode != 0 or not re.search(r'Doc-tests rpeltp\n\nrunning [1-9]', done.stdout):
         raise Difference(f'the tests of the Rust crate:\n{done.stdout}')
@@ -171,9 +175,9 @@ def from_there(prefix):
     speech, program = contents(ROOT, 'recordings', 'speech.raw'), os.path.join(COMPILED, 'example-installed')
     peers.run([peers.X86, 'cc', '-o', program, os.path.join(ROOT, PROGRAMS['example']), *flags], b'')
     same_bytes(f'the example over {prefix}', ('the lister', listed(speech)), ('C', run(program, speech)))
-    names = sorted(os.listdir(os.path.join(prefix, 'bin')))
+    names, codewords = sorted(os.listdir(os.path.join(prefix, 'bin'))), peers.ours('encode', speech)
     for name in names:
-        given = b'' if 'decode' in name else speech
+        given = codewords if 'decode' in name else speech
         expected = peers.ours(name.replace('rpeltp-', ''), given)
         same_bytes(f'{prefix}: {name}', ('target/bin', expected), ('it', run(os.path.join(prefix, 'bin', name), given)))
     return names
@@ -194,7 +198,8 @@ def installed(prefix, archive):
     wanted = {'VERSION', 'NOTES.md', 'bin', 'include', 'lib', 'examples', 'recordings', 'rust'}
     if set(os.listdir(unpacked)) != wanted:
         raise Difference(f'make dist: the archive has {sorted(os.listdir(unpacked))}')
-    print(f'installed: the example by pkg-config alone, the tests of the Rust crate over the unpacked archive, and {len(names)} programs')
+    print('installed: the example by pkg-config alone, the tests of the Rust crate over the unpacked archive, '
+          f'and {len(names)} programs')
 
 
 def main():

@@ -3,9 +3,10 @@
 
     python3 outside/layout.py
 
-Compared are: each struct's fields, their order and types; where each stands and how large the struct is, as C lays it out; each call's
-name, parameters and result; each number that has a name; the lengths of a frame and the bounds of a sound state; the version. Then the
-header is altered in many small ways, and each must be seen. Status 1: a difference, or an alteration that was not seen."""
+Compared are: each struct's fields, their order and types; where each stands and how large the struct is, as C lays it
+out; each call's name, parameters and result; each number that has a name; the lengths of a frame and the bounds of a
+sound state; the version. Then both files are altered in many small ways, and each must be seen. Status 1: a
+difference, or an alteration that was not seen."""
 import os
 import re
 import sys
@@ -24,8 +25,8 @@ BYTES = {'u8': 1, 'i16': 2, 'u16': 2, 'i32': 4}
 ENDINGS = {'none': 'NO_ENDING', '(some lpc.silent)': 'SILENT', '(some lpc.complete)': 'COMPLETE',
            '(some (lpc.stopped n))': 'STOPPED'}
 MARKS = {'none': 'NO_MARK', '(some house.rule)': 'RULE', '(some house.found)': 'FOUND'}
-ROWS = {'samples': 'REFUSED_SAMPLES', 'codewords': 'REFUSED_CODEWORDS', 'state': 'REFUSED_STATE', 'bytes': 'REFUSED_BYTES',
-        'fields': 'REFUSED_FIELD', 'spare': 'REFUSED_SPARE'}
+ROWS = {'samples': 'REFUSED_SAMPLES', 'codewords': 'REFUSED_CODEWORDS', 'state': 'REFUSED_STATE',
+        'bytes': 'REFUSED_BYTES', 'fields': 'REFUSED_FIELD', 'spare': 'REFUSED_SPARE'}
 
 
 class Drift(Exception):
@@ -71,7 +72,7 @@ def source_calls():
 
 
 def source_numbers():
-    """The numbers that have names: of the endings and marks, by the definition's cases; of the refusals, by 01's rows; of a frame."""
+    """The numbers that have names: of endings and marks by the definition's cases, of refusals by 01's rows, of a frame."""
     promise, house = read('crates/boundary/specs/Promise.antt'), read('crates/standard/specs/House.antt')
     numbers = {'DONE': 0}
     for definition, names in (('ending-number', ENDINGS), ('mark-number', MARKS)):
@@ -104,7 +105,7 @@ def element(kind):
 
 
 def laid_out(name, structs):
-    """Of a struct: where each field stands, its size and what it is aligned to. Padding is refused, since nothing clears it."""
+    """Of a struct: where each field stands, its size, its alignment. Padding is refused, since nothing clears it."""
     places, at, most = {}, 0, 1
     for field, kind in structs[name]:
         one, count = element(kind)
@@ -233,29 +234,41 @@ def altered(header):
             yield f'{word} as {other}', header[:place.start()] + other + header[place.end():]
 
 
-def seen(check, header):
+def altered_raw(raw):
+    """The declarations in Rust, wrong in one thing, and in what."""
+    for place in re.finditer(r'^    pub (\w+: [^,\n]+)(?=(,(?:\n    //[^\n]*)*\n    pub )(\w+: [^,\n]+),)', raw, re.M):
+        first, between, second = place.groups()
+        exchanged = second + between + first
+        yield f'{first} and {second} exchanged', raw[:place.start(1)] + exchanged + raw[place.end(3):]
+    words = {'*const': '*mut', '*mut': '*const', 'usize': 'u32', '#[repr(C)]': '', 'pub fn': 'pub fn no_'}
+    for word, other in words.items():
+        for place in re.finditer(re.escape(word), raw):
+            yield f'{word} as {other}', raw[:place.start()] + other + raw[place.end():]
+
+
+def seen(check, text):
     try:
-        check(header)
+        check(text)
     except (Drift, KeyError, ValueError):
         return True
     return False
 
 
 def main():
-    header = read(HEADER)
-    try:
-        check_header(header)
-        check_raw(read(RAW))
-    except Drift as drift:
-        print(f'layout: {drift}')
-        return 1
-    made = list(altered(header))
-    missed = [what for what, text in made if not seen(check_header, text)]
-    for what in missed:
-        print(f'layout: not seen: {what}')
-    print('layout: rpeltp.h and raw.rs say what the source says; '
-          f'{len(made) - len(missed)} of {len(made)} alterations of rpeltp.h are seen')
-    return 1 if missed else 0
+    for path, check, alter in ((HEADER, check_header, altered), (RAW, check_raw, altered_raw)):
+        text = read(path)
+        try:
+            check(text)
+        except Drift as drift:
+            print(f'layout: {path}: {drift}')
+            return 1
+        made = list(alter(text))
+        missed = [what for what, other in made if not seen(check, other)]
+        if missed or not made:
+            print(f'layout: {path}: not seen: {missed}')
+            return 1
+        print(f'layout: {path} says what the source says; each of {len(made)} alterations is seen')
+    return 0
 
 
 if __name__ == '__main__':

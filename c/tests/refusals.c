@@ -43,7 +43,8 @@ static uint16_t encoded(rpeltp_encode_answer a)
 {
     static const uint8_t none[4] = {RPELTP_NO_MARK, RPELTP_NO_MARK, RPELTP_NO_MARK, RPELTP_NO_MARK};
     int refused = a.number != RPELTP_DONE;
-    if (refused && (memcmp(&a.state, &encoder, sizeof encoder) != 0 || memcmp(a.marks, none, sizeof none) != 0)) return 99;
+    if (refused && memcmp(&a.state, &encoder, sizeof encoder) != 0) return 99;
+    if (refused && memcmp(a.marks, none, sizeof none) != 0) return 99;
     return (a.ending == RPELTP_NO_ENDING) == refused ? a.number : 99;
 }
 

@@ -10,7 +10,8 @@ use Rattle.boundary.specs.declared.EncodeAnswer.{EncodeAnswer}
 use Rattle.boundary.specs.Promise.{encode-answer, Encodes}
 
 -- of encode and encode_alaw
-pub encode-crosses : {e : Encoder} {samples lent : List ℤ} {a : Encoded} {left : List ℤ} {b : EncodeAnswer} → encoder.Encodes e samples lent a left
+pub encode-crosses : {e : Encoder} {samples lent : List ℤ} {a : Encoded} {left : List ℤ} {b : EncodeAnswer}
+    → encoder.Encodes e samples lent a left
     → b ≡ encode-answer (a .number) (coder (a .state)) (ending (a .ending)) (marks (a .marks)) → Encodes e samples lent b left
 encode-crosses p q =
     record { answer = cc (q, p .number, p .state, p .ending, p .marks); codewords = p .codewords }

@@ -1,4 +1,5 @@
--- No flag is lost on the way to C: each ending and each mark has a number of its own, and 0 stands in an answer exactly where encode refused.
+-- No flag is lost on the way to C: each ending and each mark has a number of its own, and 0 stands for them in an answer exactly where its
+-- refusal number is not 0.
 use Prim.Native.Nat.{ℕ, zero, suc, _+_, _-_, _<_}
 use mathlib.Core.Path.{_≡_, refl, sym, ap, _∙_}
 use mathlib.Core.Bool.{true}
@@ -7,7 +8,7 @@ use mathlib.Core.List.{List, [], _∷_, map}
 use native.Mathlib.Omega.{arith}
 use lib.IntN.{ℤ}
 use lib.Dec.{ltb}
-use lib.ListN.{replicate}
+use lib.ListN.{length, length-map, replicate}
 use Rattle.lists.specs.Every.{every}
 use Rattle.standard.specs.Lpc as lpc
 use Rattle.standard.specs.House as house
@@ -15,7 +16,9 @@ use Rattle.standard.specs.House.{encode-refusal}
 use Rattle.standard.specs.Coder.{Subcoded, coded}
 use Rattle.encoder.specs.declared.Encoder.{Encoder}
 use Rattle.encoder.specs.Promise.{coder}
-use Rattle.refusals.specs.Calls.{encode-done, encode-refused}
+use Rattle.standard.specs.Answers as answers
+use Rattle.lengths.specs.Calls.{encode-marks-length}
+use Rattle.refusals.specs.Calls.{encode-number, encode-done, encode-refused}
 use Rattle.boundary.specs.declared.EncodeAnswer.{EncodeAnswer}
 use Rattle.boundary.specs.Promise.{ending-number, mark-number, encode-answer, Encodes}
 
@@ -82,18 +85,24 @@ all-marked [] = refl
 all-marked (x ∷ xs) = rw (marked (house.mark x)) (all-marked xs)
 
 module _ (e : Encoder) (samples lent : List ℤ) (a : EncodeAnswer) (left : List ℤ) (p : Encodes e samples lent a left) where
-  -- a refusal hands back the state as it was, no ending and no mark, and leaves the codewords as they were lent
-  pub encode-hands-back : (n : ℕ) → encode-refusal (coder e) samples lent ≡ suc n
+  -- the number answered is the one that 01's rows give
+  pub number-is : a .number ≡ encode-refusal (coder e) samples lent
+  unfolding encode-answer
+  number-is = ap (λ (b : EncodeAnswer). b .number) (p .answer) ∙ encode-number (coder e) samples lent
+
+  -- a refusal hands back the state as it was, no ending and no marks, and leaves the codewords as they were lent
+  pub encode-hands-back : (n : ℕ) → a .number ≡ suc n
       → (a ≡ record { state = e; number = suc n; ending = 0; marks = replicate 4 0 }) × (left ≡ lent)
   unfolding encode-answer ending-number mark-number coder
   encode-hands-back n h =
-      let r = encode-refused (coder e) samples lent n h in
+      let r = encode-refused (coder e) samples lent n (sym number-is ∙ h) in
       (rw r at (p .answer), rw r at (p .codewords))
 
-  -- what is done has an ending, and a mark for each lag
-  pub encode-says : encode-refusal (coder e) samples lent ≡ 0 → (0 < a .ending) × (every (ltb 0) (a .marks) ≡ true)
+  -- what is done has an ending, and a mark for each of the four lags
+  pub encode-says : a .number ≡ 0 → (0 < a .ending) × (length (a .marks) ≡ 4) × (every (ltb 0) (a .marks) ≡ true)
   unfolding encode-answer
   encode-says h =
       let t = coded (coder e) samples .1 in
-      let r = rw (encode-done (coder e) samples lent h) at (p .answer) in
-      (rw r (ended (t .ending)), rw r (all-marked (t .subframes)))
+      let r = rw (encode-done (coder e) samples lent (sym number-is ∙ h)) at (p .answer) in
+      let four = length-map (answers.encode (coder e) samples lent .marks) mark-number ∙ encode-marks-length (coder e) samples lent in
+      (rw r (ended (t .ending)), ap (λ (b : EncodeAnswer). length (b .marks)) (p .answer) ∙ four, rw r (all-marked (t .subframes)))

@@ -1,6 +1,6 @@
-// Calls from C and Rust: each hands what it is given to the codec, and the codec's answer back. The states and what decode answers are the
-// codec's own; what is an enum inside is a number here. What encode promises here is in specs/Promise.antt, and c/rpeltp.h says all of it to
-// a C programmer.
+// Calls from C and Rust: each hands what it is given to the codec, and the codec's answer back. The states and what
+// decode answers are the codec's own; what is an enum inside is a number here. What encode promises here is in
+// specs/Promise.antt, and c/rpeltp.h says all of it to a C programmer.
 use decoder::Decoded;
 use decoder::Decoder;
 use encoder::Encoded;

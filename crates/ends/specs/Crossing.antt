@@ -1,5 +1,5 @@
--- A call from C is one of those that the demands speak of: what crosses is an answer that keeps encode's promise, in numbers. (The other calls
--- promise the same from C as inside.)
+-- A call from C is one of those that the demands speak of: what crosses is an answer that keeps encode's promise, in numbers. (The other
+-- calls promise the same from C as inside.)
 use mathlib.Core.Path.{_≡_, refl, sym, _∙_}
 use mathlib.Core.List.{List}
 use lib.IntN.{ℤ}
