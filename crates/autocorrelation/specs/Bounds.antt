@@ -81,7 +81,7 @@ module _ (a b : List ℤ) (l : length a ≡ length b) (m : length a ≤ 160) (p 
   small-plain = L-sum-plain a b 4194304 l product-in products-fit
 
   -- and within 160 times the greatest product, doubled
-  small-in : natAbs (L-sum (pos 0) a b) ≤ 1342177280
+  pub small-in : natAbs (L-sum (pos 0) a b) ≤ 1342177280
   small-in = omega (arith, L-sum-in a b 4194304 l product-in products-fit)
 
 -- ---- the nine sums

@@ -1,3 +1,4 @@
 pub mod Energy
 pub mod Scale
 pub mod Bounds
+pub mod Blocks

@@ -1,4 +1,5 @@
-// 4.2.11: the lag and its gain code. The 81 sums and the power never meet their limit (01, sums (c) and (d)): they are plain additions.
+// 4.2.11: the lag and its gain code. The 81 sums and the power never meet their limit (01, sums (c) and (d)): they are
+// plain additions.
 use sums::Found;
 ghost use mathlib.Core.Path.{_≡_};
 ghost use mathlib.Core.Bool.{true};
@@ -12,8 +13,9 @@ ghost use Rattle.lists.specs.Best.{best};
 ghost use Rattle.lists.specs.Every.{every};
 ghost use Rattle.standard.specs.Arithmetic.{shr, sub};
 ghost use Rattle.standard.specs.LongTerm as standard;
+ghost use Rattle.arithmetic.specs.Within.{word};
 ghost use Rattle.sums.specs.Room.{at-most};
-ghost use Rattle.lags.specs.Search.{correlated};
+ghost use Rattle.lags.specs.Search.{correlated, lasts};
 
 // What the search found: the lag, its sum before the rescaling, and whether any sum was above 0. Without one the lag is only where the
 // search stood.
@@ -55,16 +57,45 @@ fn weighed(scal: i16, d: &[i16]) -> [i16; 40]
     wt
 }
 
-// The lags from 40 to 120, upwards.
+// Each of a slice is a word, which the search has to know before it adds up what two calls gave. To read them is enough,
+// and nothing is left of it once it is compiled.
+fn words(s: &[i16])
+    ensures { λ _. ⌜ every word (now (s .entry)) ≡ true ⌝ }
+{
+    for k in 0..s.len() {
+        let x = s[k];
+    }
+}
+
+// The last 8 of the 40 products, at each place of dp that a lag starts from. The compiler makes vectors of 8 products and
+// of 32, and not of 40. That 32 and 8 are the 40 is `lag-split` (specs/Search).
+fn lasts(wt: &[i16], dp: &[i16]) -> [i32; 81]
+    requires { ⌜ (length (now wt) ≡ 40) × ((length (now dp) ≡ 120) × (every (at-most 512) (now wt) ≡ true)) ⌝ }
+    ensures { λ r. ⌜ r ≡ lasts (now (wt .entry)) (now (dp .entry)) ⌝ }
+{
+    let mut last = [0i32; 81];
+    for j in 0..81usize {
+        last[j] = sums::l_sum(&wt[32..40], &dp[32 + j..40 + j]);
+    }
+    last
+}
+
+// The lags from 40 to 120, upwards: at each the first 32 products and the last 8.
 fn lag_search(wt: &[i16], dp: &[i16]) -> Search
     requires { ⌜ (length (now wt) ≡ 40) × ((length (now dp) ≡ 120) × (every (at-most 512) (now wt) ≡ true)) ⌝ }
     ensures lag { λ r. ⌜ r .lag ≡ 40 + best (correlated (now (wt .entry)) (now (dp .entry))) .at ⌝ }
     ensures sum { λ r. ⌜ r .sum ≡ best (correlated (now (wt .entry)) (now (dp .entry))) .sum ⌝ }
     ensures positive { λ r. ⌜ r .positive ≡ ltZ (pos 0) (best (correlated (now (wt .entry)) (now (dp .entry))) .sum) ⌝ }
 {
+    words(dp);
+    let last = lasts(wt, dp);
     let mut found = Found { at: 0, sum: 0 };
     for i in 0..81usize {
-        found = sums::better(found, i, sums::l_sum(wt, &dp[80 - i..120 - i]));
+        found = sums::better(
+            found,
+            i,
+            sums::l_sum(&wt[0..32], &dp[80 - i..112 - i]) + last[80 - i],
+        );
     }
     Search {
         lag: 40 + found.at,

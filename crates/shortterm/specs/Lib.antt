@@ -1,2 +1,3 @@
 pub mod Stretches
 pub mod Bounds
+pub mod Least

@@ -1,7 +1,11 @@
 // 4.2.8, 4.2.9: the decoded ratios, their interpolation and the coefficients of both lattices.
 ghost use mathlib.Core.Path.{_≡_};
+ghost use mathlib.Core.Bool.{true};
+ghost use lib.IntN.{pos};
+ghost use lib.Signed.{leZ};
 ghost use Rattle.standard.specs.ShortTerm.{LARpp, ratios, from-ratio, rp};
 ghost use Rattle.shortterm.specs.Stretches.{LARp, rps};
+ghost use Rattle.shortterm.specs.Least.{lesser};
 
 // 4.2.8: LARpp[i + 1].
 fn larpp(i: usize, larc: i16) -> i16
@@ -41,17 +45,22 @@ fn larp(j: usize, old: i16, new: i16) -> i16
     }
 }
 
-// 4.2.9.2: the piecewise line, of a size.
-fn from_ratio(temp: i16) -> i16
-    ensures { λ r. ⌜ r ≡ from-ratio temp ⌝ }
+fn lesser(a: i16, b: i16) -> i16
+    ensures { λ r. ⌜ r ≡ lesser a b ⌝ }
 {
-    if temp < 11059 {
-        temp << 1
-    } else if temp < 20070 {
-        words::add(temp, 11059)
-    } else {
-        words::add(temp >> 2, 26112)
-    }
+    if a < b { a } else { b }
+}
+
+// 4.2.9.2: the piecewise line, of a size. It is the least of its three lines (`least-is`, specs/Least), which takes no
+// branch, so that the compiler makes vectors of the eight.
+fn from_ratio(size: i16) -> i16
+    requires { ⌜ leZ (pos 0) size ≡ true ⌝ }
+    ensures { λ r. ⌜ r ≡ from-ratio size ⌝ }
+{
+    lesser(
+        lesser(words::add(size, size), words::add(size, 11059)),
+        words::add(size >> 2, 26112),
+    )
 }
 
 // 4.2.9.2: rp[i] of LARp[i].

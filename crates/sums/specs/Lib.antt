@@ -1,3 +1,4 @@
 pub mod Room
 pub mod Along
 pub mod Search
+pub mod Split

@@ -13,11 +13,11 @@ use Rattle.lists.specs.Every.{every, every-cons}
 use Rattle.lists.specs.For.{by-entries}
 use Rattle.standard.specs.Arithmetic.{within, add, sub, mult-r}
 use Rattle.standard.specs.Tables.{neg, _at_}
-use Rattle.standard.specs.Decoder.{inverse-section, synthesised, de-emphasis, srop}
+use Rattle.standard.specs.Decoder.{inverse-section, synthesised, de-emphasis}
 use Rattle.arithmetic.specs.Clip.{plus-plain, minus-plain, plus-fits, minus-fits}
 use Rattle.arithmetic.specs.Within.{within-yes, within-is, range-is, word, word-is, word-yes}
 use Rattle.synthesis.specs.declared.Line.{Line}
-use Rattle.synthesis.specs.Speech.{speech, not-least, synthesised-words}
+use Rattle.synthesis.specs.Speech.{sounded, not-least, synthesised-words}
 
 -- the eight as a list
 abbrev pub cells : Line → List ℤ
@@ -37,28 +37,6 @@ pub record Each (p : ℤ → Bool) (l : Line) : Type 0 where
   pub v5 : p (l .v5) ≡ true
   pub v6 : p (l .v6) ≡ true
   pub v7 : p (l .v7) ≡ true
-
--- sri after each section, the eighth first, by plain differences
-pub record Fallen (r v : Line) (wt : ℤ) (s : Line) : Type 0 where
-  pub v7 : s .v7 ≡ wt -ℤ mult-r (r .v7) (v .v7)
-  pub v6 : s .v6 ≡ s .v7 -ℤ mult-r (r .v6) (v .v6)
-  pub v5 : s .v5 ≡ s .v6 -ℤ mult-r (r .v5) (v .v5)
-  pub v4 : s .v4 ≡ s .v5 -ℤ mult-r (r .v4) (v .v4)
-  pub v3 : s .v3 ≡ s .v4 -ℤ mult-r (r .v3) (v .v3)
-  pub v2 : s .v2 ≡ s .v3 -ℤ mult-r (r .v2) (v .v2)
-  pub v1 : s .v1 ≡ s .v2 -ℤ mult-r (r .v1) (v .v1)
-  pub v0 : s .v0 ≡ s .v1 -ℤ mult-r (r .v0) (v .v0)
-
--- the cells after it, by plain sums
-pub record Risen (r v s u : Line) : Type 0 where
-  pub v0 : u .v0 ≡ s .v0
-  pub v1 : u .v1 ≡ v .v0 +ℤ mult-r (r .v0) (s .v0)
-  pub v2 : u .v2 ≡ v .v1 +ℤ mult-r (r .v1) (s .v1)
-  pub v3 : u .v3 ≡ v .v2 +ℤ mult-r (r .v2) (s .v2)
-  pub v4 : u .v4 ≡ v .v3 +ℤ mult-r (r .v3) (s .v3)
-  pub v5 : u .v5 ≡ v .v4 +ℤ mult-r (r .v4) (s .v4)
-  pub v6 : u .v6 ≡ v .v5 +ℤ mult-r (r .v5) (s .v5)
-  pub v7 : u .v7 ≡ v .v6 +ℤ mult-r (r .v6) (s .v6)
 
 -- ---- the eight of a list
 
@@ -210,34 +188,12 @@ sections-are r v wt s u h =
 
 module _ (a b : ℤ) {s : ℤ} where
   -- a difference that is a word meets no limit
-  minus-word : s ≡ a -ℤ b → word s ≡ true → s ≡ sub a b
+  pub minus-word : s ≡ a -ℤ b → word s ≡ true → s ≡ sub a b
   minus-word e h = e ∙ sym (minus-plain a b (rw e at (word-is s h)))
 
   -- nor does such a sum
-  plus-word : s ≡ a +ℤ b → word s ≡ true → s ≡ add a b
+  pub plus-word : s ≡ a +ℤ b → word s ≡ true → s ≡ add a b
   plus-word e h = e ∙ sym (plus-plain a b (rw e at (word-is s h)))
-
--- so where all are words, the plain sums are the sections
-pub plain-sections : (r v : Line) (wt : ℤ) (s u : Line) → Fallen r v wt s → Each word s → Risen r v s u → Each word u → Sections r v wt s u
-plain-sections r v wt s u f w g x =
-    record {
-      s7 = minus-word wt (mult-r (r .v7) (v .v7)) (f .v7) (w .v7);
-      s6 = minus-word (s .v7) (mult-r (r .v6) (v .v6)) (f .v6) (w .v6);
-      s5 = minus-word (s .v6) (mult-r (r .v5) (v .v5)) (f .v5) (w .v5);
-      s4 = minus-word (s .v5) (mult-r (r .v4) (v .v4)) (f .v4) (w .v4);
-      s3 = minus-word (s .v4) (mult-r (r .v3) (v .v3)) (f .v3) (w .v3);
-      s2 = minus-word (s .v3) (mult-r (r .v2) (v .v2)) (f .v2) (w .v2);
-      s1 = minus-word (s .v2) (mult-r (r .v1) (v .v1)) (f .v1) (w .v1);
-      s0 = minus-word (s .v1) (mult-r (r .v0) (v .v0)) (f .v0) (w .v0);
-      u0 = g .v0;
-      u1 = plus-word (v .v0) (mult-r (r .v0) (s .v0)) (g .v1) (x .v1);
-      u2 = plus-word (v .v1) (mult-r (r .v1) (s .v1)) (g .v2) (x .v2);
-      u3 = plus-word (v .v2) (mult-r (r .v2) (s .v2)) (g .v3) (x .v3);
-      u4 = plus-word (v .v3) (mult-r (r .v3) (s .v3)) (g .v4) (x .v4);
-      u5 = plus-word (v .v4) (mult-r (r .v4) (s .v4)) (g .v5) (x .v5);
-      u6 = plus-word (v .v5) (mult-r (r .v5) (s .v5)) (g .v6) (x .v6);
-      u7 = plus-word (v .v6) (mult-r (r .v6) (s .v6)) (g .v7) (x .v7);
-    }
 
 -- ---- the cells after a sample
 
@@ -251,12 +207,17 @@ module _ (r v : Line) (wt : ℤ) (u : Line) (e : cells u ≡ synthesised (cells 
   unfolding synthesised
   first-is = ap (λ (t : List ℤ). t at 0) e
 
-  -- and the turn, with the de-emphasis and the output
-  pub turn-is : (msr d o : ℤ) → d ≡ de-emphasis msr (u .v0) .0 → o ≡ srop d → ((cells u, d), o) ≡ speech (cells v, msr) (cells r, wt)
-  unfolding speech de-emphasis
-  turn-is msr d o f g =
+  -- and the turn, with the de-emphasis
+  pub turn-is : (msr d : ℤ) → d ≡ de-emphasis msr (u .v0) .0 → ((cells u, d), d) ≡ sounded (cells v, msr) (cells r, wt)
+  unfolding sounded de-emphasis
+  turn-is msr d f =
       let h : d ≡ de-emphasis msr (synthesised (cells v) (cells r, wt) .1) .0 = rw (← first-is) f in
-      rw (g, h, e)
+      rw (h, e)
+
+-- what de-emphasis gives is a word
+pub emphasised-word : (msr sr : ℤ) → word (de-emphasis msr sr .0) ≡ true
+unfolding de-emphasis
+emphasised-word msr sr = word-yes _ (plus-fits w16 sr (mult-r msr (pos 28180)))
 
 -- coefficients that are words and not the least are factors
 pub factors-all : (a : List ℤ) → every not-least a ≡ true → every word a ≡ true → every factor a ≡ true

@@ -1,3 +1,4 @@
 pub mod Speech
 pub mod Lattice
 pub mod Promise
+pub mod Biased

@@ -27,6 +27,17 @@ speech (v, msr) x =
 unfoldable pub spoken : List ℤ → ℤ → List ℤ → List ℤ → (List ℤ × ℤ) × List ℤ
 spoken v msr rrp wt = run speech (v, msr) (zip (replicate (length wt) rrp) wt)
 
+-- one sample before its doubling: v[0..7] and msr after it, and sro[k]
+unfoldable pub sounded : List ℤ × ℤ → List ℤ × ℤ → (List ℤ × ℤ) × ℤ
+sounded (v, msr) x =
+    let t = synthesised v x in
+    let e = de-emphasis msr (t .1) in
+    ((t .0, e .0), e .1)
+
+-- and those of a stretch
+unfoldable pub voiced : List ℤ → ℤ → List ℤ → List ℤ → (List ℤ × ℤ) × List ℤ
+voiced v msr rrp wt = run sounded (v, msr) (zip (replicate (length wt) rrp) wt)
+
 -- a coefficient that is not the least word, so that mult_r meets no limit
 abbrev pub not-least : ℤ → Bool
 not-least z = leZ (neg 32767) z
@@ -42,6 +53,19 @@ spoken-is v msr [] = refl
 spoken-is v msr (x ∷ xs) =
     let t = synthesised v x in
     rw (spoken-is (t .0) (de-emphasis msr (t .1) .0) xs)
+
+-- the doubling can be left for last
+doubled-last : (v : List ℤ) (msr : ℤ) (xs : List (List ℤ × ℤ))
+    → run speech (v, msr) xs ≡ (run sounded (v, msr) xs .0, map srop (run sounded (v, msr) xs .1))
+unfolding speech sounded run
+doubled-last v msr [] = refl
+doubled-last v msr (x ∷ xs) =
+    let t = synthesised v x in
+    rw (doubled-last (t .0) (de-emphasis msr (t .1) .0) xs)
+
+pub voiced-is : (v : List ℤ) (msr : ℤ) (rrp wt : List ℤ) → spoken v msr rrp wt ≡ (voiced v msr rrp wt .0, map srop (voiced v msr rrp wt .1))
+unfolding spoken voiced
+voiced-is v msr rrp wt = doubled-last v msr _
 
 -- ---- the samples of a stretch
 

@@ -1,13 +1,20 @@
+-- The line of the size, with the sign of the ratio.
 use mathlib.Core.Path.{_≡_}
 use mathlib.Core.Bool.{true, false}
 use borrow.Author.Needs.{needs}
 use lib.IntN.{pos}
 use lib.Signed.{ltZ}
+use mir.Syntax.{w16}
+use Rattle.integers.specs.Halves.{zar, mem}
 use Rattle.integers.specs.Ranges.{back, res}
+use Rattle.arithmetic.specs.Clip.{abs-clip}
 use Rattle.standard.specs.Lpc.{with-sign}
 use Rattle.standard.specs.ShortTerm.{rp}
 use Rattle.shortterm.proofs.rp.Statement.{statement}
 use Rattle.shortterm.proofs.rp.Tie as tie
+
+from-ratio-requires : tie.Need-from-ratio-requires
+from-ratio-requires c κs = rw (res (c .abs), c .abs .ensures) (omega (zar, abs-clip (mem w16 (c .before .args .larp))))
 
 returns : tie.Need-returns
 unfolding rp with-sign
@@ -28,4 +35,4 @@ returns-2 c =
     rw above (cc (x, res (k .before .abs), res (k .from-ratio)))
 
 pub rp-spec : {M : Type 1} → statement M
-rp-spec = tie.close (tie.spec (λ c κs. search needs) (λ c κs. search needs) (λ c κs. search needs) returns returns-2)
+rp-spec = tie.close (tie.spec (λ c κs. search needs) from-ratio-requires (λ c κs. search needs) returns returns-2)

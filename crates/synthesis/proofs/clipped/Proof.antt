@@ -1,3 +1,4 @@
+-- Each way the two tests can go is the limit of a word.
 use mir.Syntax.{w16}
 use Rattle.integers.specs.Halves.{zar, know}
 use Rattle.arithmetic.specs.Clip.{clip-is}

@@ -1,3 +1,4 @@
+-- Eight words of 32 bits as words of 16: each fits, and is the same number.
 use mathlib.Core.Path.{_≡_}
 use mathlib.Core.Bool.{true}
 use lib.IntN.{ℤ}
@@ -18,33 +19,34 @@ fits z h = rw (word-back z h) (word-is z h)
 cut : (z : ℤ) → word z ≡ true → mem w16 (mem w32 z) ≡ z
 cut z h = rw (word-back z h) (back (word-is z h))
 
-cast-t2 : tie.Need-cast-t2
-cast-t2 c = let s = c .before .before in fits (s .args .l .v0) (s .pre .v0)
+-- the start, from where each of the eight is read
+abbrev entry-0 : tie.After-struct-told → tie.Start
+entry-0 c = c .before .before
 
-cast-t3 : tie.Need-cast-t3
-cast-t3 c = let s = c .before .before .before .before in fits (s .args .l .v1) (s .pre .v1)
+abbrev entry-1 : tie.After-struct-told2 → tie.Start
+entry-1 c = entry-0 (c .before .before)
 
-cast-t4 : tie.Need-cast-t4
-cast-t4 c = let s = c .before .before .before .before .before .before in fits (s .args .l .v2) (s .pre .v2)
+abbrev entry-2 : tie.After-struct-told3 → tie.Start
+entry-2 c = entry-1 (c .before .before)
 
-cast-t5 : tie.Need-cast-t5
-cast-t5 c = let s = c .before .before .before .before .before .before .before .before in fits (s .args .l .v3) (s .pre .v3)
+abbrev entry-3 : tie.After-struct-told4 → tie.Start
+entry-3 c = entry-2 (c .before .before)
 
-cast-t6 : tie.Need-cast-t6
-cast-t6 c = let s = c .before .before .before .before .before .before .before .before .before .before in fits (s .args .l .v4) (s .pre .v4)
+abbrev entry-4 : tie.After-struct-told5 → tie.Start
+entry-4 c = entry-3 (c .before .before)
 
-cast-t7 : tie.Need-cast-t7
-cast-t7 c = let s = c .before .before .before .before .before .before .before .before .before .before .before .before in fits (s .args .l .v5) (s .pre .v5)
+abbrev entry-5 : tie.After-struct-told6 → tie.Start
+entry-5 c = entry-4 (c .before .before)
 
-cast-t8 : tie.Need-cast-t8
-cast-t8 c = let s = c .before .before .before .before .before .before .before .before .before .before .before .before .before .before in fits (s .args .l .v6) (s .pre .v6)
+abbrev entry-6 : tie.After-struct-told7 → tie.Start
+entry-6 c = entry-5 (c .before .before)
 
-cast-t9 : tie.Need-cast-t9
-cast-t9 c = let s = c .before .before .before .before .before .before .before .before .before .before .before .before .before .before .before .before in fits (s .args .l .v7) (s .pre .v7)
+abbrev entry-7 : tie.After-struct-told8 → tie.Start
+entry-7 c = entry-6 (c .before .before)
 
 returns : tie.Need-returns
 returns c =
-    let s = c .before .before .before .before .before .before .before .before .before .before .before .before .before .before .before .before in
+    let s = entry-7 c in
     let l = s .args .l in
     let h = s .pre in
     rw (
@@ -59,4 +61,15 @@ returns c =
     )
 
 pub gathered-spec : {M : Type 1} → statement M
-gathered-spec = tie.close (tie.spec cast-t2 cast-t3 cast-t4 cast-t5 cast-t6 cast-t7 cast-t8 cast-t9 returns)
+gathered-spec =
+    tie.close
+    (tie.spec
+    (λ c. let s = entry-0 c in fits (s .args .l .v0) (s .pre .v0))
+    (λ c. let s = entry-1 c in fits (s .args .l .v1) (s .pre .v1))
+    (λ c. let s = entry-2 c in fits (s .args .l .v2) (s .pre .v2))
+    (λ c. let s = entry-3 c in fits (s .args .l .v3) (s .pre .v3))
+    (λ c. let s = entry-4 c in fits (s .args .l .v4) (s .pre .v4))
+    (λ c. let s = entry-5 c in fits (s .args .l .v5) (s .pre .v5))
+    (λ c. let s = entry-6 c in fits (s .args .l .v6) (s .pre .v6))
+    (λ c. let s = entry-7 c in fits (s .args .l .v7) (s .pre .v7))
+    returns)

@@ -1,3 +1,4 @@
+-- One sample as 001 writes it: each section takes what the one before has left, and all eight are the definition's.
 use mathlib.Core.Path.{_≡_, refl}
 use mathlib.Core.Bool.{true}
 use mir.Syntax.{w32}
@@ -183,7 +184,8 @@ sections c =
 
 returns : tie.Need-returns
 returns c =
-    let t = c .before .before .before .before .before .before .before in
+    let read : tie.After-struct-told27 = c .before .before .before in
+    let t : tie.After-through8 = read .before .before .before .before in
     let s = entry-8 t in
     sections-are (s .args .r) (s .args .v) (s .args .wt) (sri t) (after t) (sections t)
 

@@ -1,3 +1,4 @@
+-- A cell plus a term fits 32 bits, and is the plain sum.
 use mir.Syntax.{w16}
 use mir.Val.{SFits}
 use borrow.Author.Needs.{needs}

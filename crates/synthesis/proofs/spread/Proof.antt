@@ -1,3 +1,4 @@
+-- Eight words of 16 bits as words of 32: the same numbers.
 use mir.Syntax.{w16}
 use mir.Val.{SFits}
 use borrow.Author.Needs.{needs}

@@ -1,3 +1,4 @@
+-- The rounded product is mult_r, since a coefficient is not the least word.
 use mathlib.Core.Path.{_∙_, sym}
 use native.Mathlib.Omega.{arith}
 use Rattle.integers.specs.Halves.{know}
@@ -24,7 +25,8 @@ returns : tie.Need-returns
 returns c =
     let f = factor-is (c .args .rrp) (c .pre .0) in
     let g = word-is (c .args .v) (c .pre .1) in
-    search zfits ∙ sym (mult-r-plain (c .args .rrp) (c .args .v) f g (omega (arith, range-is 32767 32767 (c .args .rrp) (c .pre .0), know g)))
+    let r = range-is 32767 32767 (c .args .rrp) (c .pre .0) in
+    search zfits ∙ sym (mult-r-plain (c .args .rrp) (c .args .v) f g (omega (arith, r, know g)))
 
 pub term-spec : {M : Type 1} → statement M
 term-spec = tie.close (tie.spec mul-result add-result returns)

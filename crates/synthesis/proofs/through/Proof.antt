@@ -1,19 +1,18 @@
+-- A section with its two limits: the clipped difference and the clipped sum.
 use mathlib.Core.Path.{ap, _∙_}
 use mir.Syntax.{w16}
 use mir.Val.{SFits}
 use borrow.Author.Needs.{needs}
-use Rattle.integers.specs.Halves.{zar, know}
 use Rattle.integers.specs.Ranges.{back, res}
 use Rattle.standard.specs.Arithmetic.{clip, plus, minus}
 use Rattle.arithmetic.specs.Clip.{clip-fits}
-use Rattle.arithmetic.specs.Within.{word-is, word-yes}
+use Rattle.arithmetic.specs.Within.{word-yes}
 use Rattle.synthesis.proofs.through.Statement.{statement}
 use Rattle.synthesis.proofs.through.Tie as tie
 
 lowered-requires : tie.Need-lowered-requires
 lowered-requires c κs =
-    let f = word-is (c .args .sri) (c .pre .2) in
-    (rw (back (c .fits .rrp)) (c .pre .0), rw (back (c .fits .v)) (c .pre .1), omega (zar, know f, know (c .fits .sri)))
+    (rw (back (c .fits .rrp)) (c .pre .0), rw (back (c .fits .v)) (c .pre .1), rw (back (c .fits .sri)) (c .pre .2))
 
 raised-requires : tie.Need-raised-requires
 raised-requires c κs =
@@ -28,7 +27,7 @@ returns c =
     let o = r .before in
     let l = o .before in
     let s = l .before in
-    let below = rw (back (s .fits .rrp), back (s .fits .v), back (s .fits .sri)) at (l .lowered .ensures .0) in
+    let below = rw (back (s .fits .rrp), back (s .fits .v), back (s .fits .sri)) at (l .lowered .ensures) in
     let above = rw (back (s .fits .rrp), back (s .fits .v)) at (r .raised .ensures) in (
       res (o .clipped) ∙ (o .clipped .ensures ∙ ap (clip w16) (res (l .lowered) ∙ below)),
       res (c .clipped2) ∙ (c .clipped2 .ensures ∙ ap (clip w16) (res (r .raised) ∙ above)),

@@ -1,3 +1,4 @@
+-- Doubled with its limit, the low 3 bits cleared.
 use mir.Syntax.{w16}
 use borrow.Author.Needs.{needs}
 use Rattle.integers.specs.Ranges.{back, res, shr-fits}
