@@ -82,6 +82,6 @@ dist:
 	tar --sort=name --mtime=@0 --owner=0 --group=0 --numeric-owner -C build -cf - rpeltp-$(VERSION) | gzip -n > $(DIST).tar.gz
 	@echo "$(DIST).tar.gz"
 
-bench: archive
+bench: archive build/bin
 	outside/install python3
 	python3 bench/bench.py

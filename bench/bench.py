@@ -1,7 +1,7 @@
 #!/usr/bin/env python3
 """Measures our codec beside the others, in one process: `make bench`, or python3 bench/bench.py.
 
-Writes bench/results.tsv, bench/channels.tsv, bench/notes.txt and bench/results.svg. ROUNDS in the environment says how
+Writes bench/results.tsv, bench/channels.tsv, bench/programs.tsv, bench/notes.txt and bench/results.svg. ROUNDS in the environment says how
 many rounds are timed: 101, which take a minute or two; 5 take seconds. What is missing is installed as Debian's
 packages where that can be done; a peer that cannot be had is said to be missing, and the rest is measured. Status 1:
 nothing could be compiled, or ours has other bits than libgsm, and then nothing is timed."""
@@ -20,6 +20,7 @@ BUILD = os.path.join(ROOT, 'build', 'bench')
 sys.path.insert(0, os.path.join(ROOT, 'outside'))
 import libgsm
 import picture
+import programs
 import signals
 import tables
 from tables import AVCODEC, NATIVE, OURS, REFERENCE, WORDS
@@ -140,7 +141,7 @@ def prompts():
 
 
 def material():
-    """Writes the three materials; the words that name them to bench, and what the two that are timed are."""
+    """Writes the three materials; the words that name them to bench, what the two that are timed are, and the speech."""
     speech, which = prompts(), f'the prompts of {PROMPTS}'
     if len(speech) < 320 * FRAMES:
         with open(os.path.join(ROOT, 'recordings', 'speech.raw'), 'rb') as file:
@@ -156,7 +157,7 @@ def material():
         with open(path, 'wb') as file:
             file.write(samples[:320 * FRAMES])
         words += [name, path]
-    return words, f'speech is {which}; noise is random words of 16 bits, seed {SEED}'
+    return words, f'speech is {which}; noise is random words of 16 bits, seed {SEED}', speech
 
 
 # ---- the run
@@ -172,6 +173,21 @@ def measured(rounds, heard, listed, archive):
     return text
 
 
+def programs_run(speech, rounds):
+    """The programs, beside those of libgsm. Where one cannot be had, the table that stands is left."""
+    install('toast')
+    print('ten minutes of speech through the programs, on standard input and output', flush=True)
+    try:
+        best = programs.measured(speech, BUILD, rounds)
+    except (programs.Missing, OSError) as fault:
+        print(f'missing: the programs: {fault}')
+        return 1
+    programs.write(best)
+    tables.aligned(programs.HEADER, list(programs.rows(best)))
+    print('written: bench/programs.tsv')
+    return 0
+
+
 def main():
     rounds, missing = os.environ.get('ROUNDS', '101'), {}
     if not rounds.isdecimal() or int(rounds) == 0:
@@ -182,7 +198,7 @@ def main():
         install(package)
     try:
         listed, archive = codecs(missing)
-        heard, what = material()
+        heard, what, speech = material()
         said = tables.Said(measured(rounds, heard, listed, archive), rounds, what, missing)
     except Failed as failed:
         print(f'bench: {failed}; no table is written')
@@ -190,7 +206,7 @@ def main():
     tables.write(said)
     picture.draw()
     tables.show(said)
-    return 0
+    return programs_run(speech, rounds)
 
 
 if __name__ == '__main__':

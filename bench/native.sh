@@ -1,15 +1,18 @@
 #!/bin/sh
 # native.sh ARCHIVE: our library for this processor where that is no x86-64, for the benchmark alone.
+# native.sh --program NAME FILE: the same of one of our programs.
 #
-# The archive that `rt staticlib boundary` writes is for x86-64. This runs that command in a copy of the repository,
-# keeps the LLVM module that the kit's clang is handed, and has the same clang compile the same module, with the same
-# options, for AArch64. What comes of it is not what is shipped.
+# The archive that `rt staticlib boundary` writes is for x86-64, and so is what `rt check NAME` makes of a program. This
+# runs that command in a copy of the repository, keeps the LLVM module that the kit's clang is handed, and has the same
+# clang compile the same module, with the same options, for AArch64. What comes of it is not what is shipped.
 #
 # In the module only the calls from C have to change. A struct that goes in by value lies on the stack on x86-64
 # (byval); on AArch64 the caller makes a copy and hands its address (noalias). Of a struct that comes out, the address
 # is the first argument and the answer on x86-64; on AArch64 it is in register x8 and nothing is answered (sret).
 set -eu
-case $1 in /*) archive=$1 ;; *) archive=$PWD/$1 ;; esac
+how=staticlib name=boundary
+[ "$1" != --program ] || { how=check && name=$2 && shift 2; }
+case $1 in /*) made=$1 ;; *) made=$PWD/$1 ;; esac
 machine=$(uname -m)
 fault() {
     echo "native.sh: $1" >&2
@@ -28,7 +31,7 @@ sources() {
     find . -path './*/src/*' -type f -exec sha256sum {} + | sort
 }
 key=$(sources | sha256sum)
-if [ -f "$archive" ] && [ "$(cat "$archive.key" 2>/dev/null)" = "$key" ]; then exit 0; fi
+if [ -f "$made" ] && [ "$(cat "$made.key" 2>/dev/null)" = "$key" ]; then exit 0; fi
 
 work=$(mktemp -d)
 trap 'rm -rf "$work"' EXIT
@@ -63,7 +66,7 @@ for part in rlib stamp; do
     [ ! -d "$root/target/$part" ] || cp -R "$root/target/$part" "$work/repository/target/"
 done
 cd "$work/repository"
-RATTLE_HOME=$work/kit rt staticlib boundary >"$work/said" 2>&1 || { tail -n 20 "$work/said" >&2 && exit 1; }
+RATTLE_HOME=$work/kit rt "$how" "$name" >"$work/said" 2>&1 || { tail -n 20 "$work/said" >&2 && exit 1; }
 cd "$work"
 [ -f module.bc ] || fault 'the kit hands its clang no module'
 
@@ -76,8 +79,11 @@ sed -e 's/^target triple = .*/target triple = "aarch64-unknown-linux-gnu"/' -e '
     -e 's/byval(\[[0-9]* x i8\])/noalias/' -e 's/^  ret ptr %a0$/  ret void/' -e '}' x86.ll >native.ll
 if grep -E 'byval|^define [^@]*ptr @rpeltp_|x86' native.ll >&2; then fault 'this of x86-64 is left in the module'; fi
 "$tools/bin/clang" --target=aarch64-unknown-linux-gnu -ffunction-sections -fdata-sections -mllvm -trap-unreachable \
-    -mllvm -no-trap-after-noreturn --no-default-config -Werror -fPIC -O3 -x ir native.ll -c -o boundary.o
-"$tools/bin/llvm-ar" rcs native.a boundary.o
-mkdir -p "$(dirname "$archive")"
-mv native.a "$archive"
-echo "$key" >"$archive.key"
+    -mllvm -no-trap-after-noreturn --no-default-config -Werror -fPIC -O3 -x ir native.ll -c -o native.o
+case $how in
+staticlib) "$tools/bin/llvm-ar" rcs made native.o ;;
+check) gcc -Wl,--gc-sections -o made native.o ;;
+esac
+mkdir -p "$(dirname "$made")"
+mv made "$made"
+echo "$key" >"$made.key"

@@ -1,5 +1,5 @@
-// Over a list: the largest size, the sum of products, the sum of squares. 01's sums (b) to (e) never meet their limit, so these are
-// plain additions, which the compiler turns into vector code.
+// Over a list: the largest size, the sum of products, the sum of squares. 01's sums (b) to (d) never meet their limit, so
+// these are plain additions, which the compiler turns into vector code.
 ghost use mathlib.Core.Path.{_≡_};
 ghost use mathlib.Core.Bool.{cond};
 ghost use Prim.Native.Nat.{_*_, _-_, _^_, _<_, _≤_};
@@ -45,7 +45,7 @@ pub fn l_sum(a: &[i16], b: &[i16]) -> i32
     sum + sum
 }
 
-// 4.2.11, 4.2.14: the sum of L_mult of each word by itself, once the words are shifted right by n.
+// 4.2.11: the sum of L_mult of each word by itself, once the words are shifted right by n.
 pub fn l_squares(n: u16, xs: &[i16]) -> i32
     requires { ⌜ (n ≤ 15) × (length (now xs) * (2 ^ (15 - n) * 2 ^ (15 - n)) < 1073741824) ⌝ }
     ensures { λ r. ⌜ r ≡ L-squares n (now (xs .entry)) ⌝ }

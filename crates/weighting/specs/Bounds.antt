@@ -1,8 +1,8 @@
 -- 01, sums (e) and (f): a grid's energy is within 1744830464 and the filter's sum within 1625169920, and no step of either meets its limit.
-use Prim.Native.Nat.{ℕ, _+_, _*_, _<_, _≤_}
+use Prim.Native.Nat.{ℕ, _<_, _≤_}
 use mathlib.Core.Path.{_≡_, refl, _∙_}
 use mathlib.Core.Bool.{true}
-use mathlib.Core.List.{List, foldl, map, zipWith}
+use mathlib.Core.List.{List, foldl, zipWith}
 use native.Mathlib.Omega.{arith}
 use lib.IntN.{ℤ, pos, negsuc, _+ℤ_, _*ℤ_, natAbs}
 use lib.ListN.{length, take, drop, replicate, length-map, length-take, length-drop}
@@ -12,14 +12,13 @@ use Rattle.integers.specs.Halves.{N, zar, abs-is}
 use Rattle.integers.specs.Sums.{add-is, mul-is}
 use Rattle.lists.specs.Every.{every, every-at, every-append, every-replicate, every-take, every-drop}
 use Rattle.lists.specs.Steps.{fold-keeps}
-use Rattle.lists.specs.Tab.{map-at, zip-at, zip-length}
-use Rattle.standard.specs.Arithmetic.{_>>_, within, L-mult, L-sum, L-squares}
+use Rattle.lists.specs.Tab.{zip-at, zip-length}
+use Rattle.standard.specs.Arithmetic.{within, L-mult, L-sum, L-squares}
 use Rattle.standard.specs.Tables.{_at_, H}
 use Rattle.standard.specs.Rpe.{grid}
 use Rattle.arithmetic.specs.Within.{word, word-is, within-yes}
-use Rattle.lengths.specs.Subframes.{grid-length}
-use Rattle.loops.specs.Positions.{grid-at}
-use Rattle.sums.specs.Room.{square-in, L-sum-in, L-sum-steps, L-sum-plain}
+use Rattle.sums.specs.Room.{L-sum-steps}
+use Rattle.weighting.specs.Energy.{square, squared, words-small, total, total-in, wt, squares-are, wt-in, wt-room, energy-is}
 use Rattle.weighting.specs.Filter.{around, around-length, front, sum-front, Heard, taps-steps, taps-in}
 
 -- ---- the energy of a grid
@@ -39,37 +38,22 @@ squares-above xs =
 
 -- x is forty words, m one of the four grids
 module _ (m : ℕ) (x : List ℤ) (k : m ≤ 3) (l : length x ≡ 40) (f : every word x ≡ true) where
-  abbrev wt : List ℤ
-  wt = map (λ y. y >> 2) (grid m x)
-
-  thirteen : length wt ≡ 13
-  thirteen = length-map (grid m x) (λ y. y >> 2) ∙ grid-length m x
-
-  pulse : (i : ℕ) → i < 13 → SFits w16 (grid m x at i)
-  pulse i h = rw (grid-at m x i h) (word-is (x at (m + 3 * i)) (every-at word x (m + 3 * i) (pos 0) f (omega arith)))
-
-  square : (i : ℕ) → i < length wt → natAbs (wt at i *ℤ wt at i) ≤ 67108864
-  square i h =
-      let g : i < 13 = omega (arith, thirteen) in
-      rw (map-at (λ y. y >> 2) (grid m x) i (pos 0) (pos 0) (omega (arith, grid-length m x))) (square-in 2 (grid m x at i) (omega arith) (pulse i g))
-
-  room : length wt * 67108864 < 1073741824
-  room = rw thirteen (omega arith)
-
   -- sum (e): its energy is from 0 to 1744830464
   pub energy-in : within (pos 0) (pos 1744830464) (L-squares 2 (grid m x)) ≡ true
-  unfolding L-squares
   energy-in =
-      let s = foldl _+ℤ_ (pos 0) (zipWith _*ℤ_ wt wt) in
-      let L = L-sum (pos 0) wt wt in
-      let b = rw thirteen at (L-sum-in wt wt 67108864 refl square room) in
-      let e : L ≡ s +ℤ s = L-sum-plain wt wt 67108864 refl square room in
-      within-yes (pos 0) (pos 1744830464) L (omega (zar, squares-above wt, add-is s s)) (omega (zar, abs-is L))
+      let s = words-small x f in
+      let t = total m (squared x) in
+      let above : N t ≡ 0 = rw (squares-are m x) at (squares-above (wt m x)) in
+      let most = total-in (squared x) (length-map x square ∙ l) s m k in
+      rw (energy-is m x k l s)
+      (within-yes (pos 0) (pos 1744830464) (t +ℤ t) (omega (zar, add-is t t)) (omega (zar, add-is t t, abs-is t)))
 
   -- and is the plain sum of its terms
-  pub energy-steps : L-squares 2 (grid m x) ≡ foldl _+ℤ_ (pos 0) (zipWith L-mult wt wt)
+  pub energy-steps : L-squares 2 (grid m x) ≡ foldl _+ℤ_ (pos 0) (zipWith L-mult (wt m x) (wt m x))
   unfolding L-squares
-  energy-steps = L-sum-steps wt wt 67108864 refl square room
+  energy-steps =
+      let s = words-small x f in
+      L-sum-steps (wt m x) (wt m x) 67108864 refl (wt-in m x k l s) (wt-room m x k l s)
 
 -- ---- the filter's sum
 

@@ -2,13 +2,16 @@
 // meet their limit (01, sums (e) and (f)): they are plain additions. What can meet one are the filter's two doublings.
 use sums::Found;
 ghost use mathlib.Core.Path.{_≡_};
+ghost use mathlib.Core.Bool.{true};
 ghost use mathlib.Core.List.{_++_};
 ghost use Prim.Native.Nat.{_*_, _≤_};
 ghost use lib.IntN.{pos, _+ℤ_, _*ℤ_, natAbs};
 ghost use lib.ListN.{length, replicate};
-ghost use Rattle.standard.specs.Arithmetic.{L-squares};
+ghost use Rattle.lists.specs.Every.{every};
 ghost use Rattle.standard.specs.LongTerm.{residual};
 ghost use Rattle.standard.specs.Rpe.{filtered, weighted, grid, Mc};
+ghost use Rattle.sums.specs.Room.{at-most};
+ghost use Rattle.weighting.specs.Energy.{squared, total};
 
 // 4.2.12, 4.2.13: wt[0..49], which is e[0..39] with five zeros on either side; e is d less the estimate.
 fn surrounded(d: &[i16], dpp: [i16; 40]) -> [i16; 50]
@@ -68,22 +71,60 @@ pub fn grid(m: usize, x: [i16; 40]) -> [i16; 13]
     xm
 }
 
-// The energy of a grid.
-fn energy(m: usize, x: [i16; 40]) -> i32
-    requires { ⌜ m ≤ 3 ⌝ }
-    ensures { λ r. ⌜ r ≡ L-squares 2 (grid m x) ⌝ }
+// 4.2.14: the square of each sample, once it is shifted right by 2. The four energies are sums of these.
+fn squares(x: [i16; 40]) -> [i32; 40]
+    ensures is { λ r. ⌜ r ≡ squared x ⌝ }
+    ensures small { λ r. ⌜ every (at-most 67108864) r ≡ true ⌝ }
 {
-    let xm = grid(m, x);
-    sums::l_squares(2, &xm[0..13])
+    let mut q = [0i32; 40];
+    for k in 0..40usize {
+        let t = (x[k] >> 2) as i32;
+        q[k] = t * t;
+    }
+    q
 }
 
-// 4.2.14: the grid of the greatest energy.
+// The sums of the squares on grids 0, 1 and 2.
+struct Energies {
+    first: i32,
+    second: i32,
+    third: i32,
+}
+
+// Thirteen squares have room, so these are plain additions.
+fn totals(q: [i32; 40]) -> Energies
+    requires { ⌜ every (at-most 67108864) q ≡ true ⌝ }
+    ensures first { λ r. ⌜ r .first ≡ total 0 q ⌝ }
+    ensures second { λ r. ⌜ r .second ≡ total 1 q ⌝ }
+    ensures third { λ r. ⌜ r .third ≡ total 2 q ⌝ }
+{
+    let mut first = 0i32;
+    let mut second = 0i32;
+    let mut third = 0i32;
+    for n in 0..13usize {
+        first = first + q[3 * n];
+        second = second + q[3 * n + 1];
+        third = third + q[3 * n + 2];
+    }
+    Energies {
+        first: first,
+        second: second,
+        third: third,
+    }
+}
+
+// 4.2.14: the grid of the greatest energy. Grid 3 is grid 0 without its first sample and with sample 39.
+// Each sum is doubled once, where 001's L_mult doubles each square.
 pub fn mc(x: [i16; 40]) -> usize
     ensures { λ r. ⌜ r ≡ Mc x ⌝ }
 {
-    let mut found = Found { at: 0, sum: 0 };
-    for m in 0..4usize {
-        found = sums::better(found, m, energy(m, x));
-    }
+    let q = squares(x);
+    let e = totals(q);
+    let fourth = e.first - q[0] + q[39];
+    let none = Found { at: 0, sum: 0 };
+    let a = sums::better(none, 0, e.first + e.first);
+    let b = sums::better(a, 1, e.second + e.second);
+    let c = sums::better(b, 2, e.third + e.third);
+    let found = sums::better(c, 3, fourth + fourth);
     found.at
 }
