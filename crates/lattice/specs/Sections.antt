@@ -1,12 +1,11 @@
 -- 4.2.10 the other way round: a section over all samples, then the next one. What a section's turn over all samples is, and its elements.
-use Prim.Native.Nat.{ℕ, zero, suc, _-_, _≤_, _<_}
+use Prim.Native.Nat.{ℕ, suc, _<_}
 use mathlib.Core.Path.{_≡_, refl, ap, _∙_}
 use mathlib.Core.Bool.{Bool, true}
 use mathlib.Core.List.{List, _∷_, _++_, zipWith}
 use native.Mathlib.Omega.{arith}
 use lib.IntN.{ℤ, pos}
 use lib.ListN.{length, take, replicate, length-take}
-use lib.Seq.{getD-take}
 use lib.Signed.{leZ}
 use Rattle.lists.specs.Tab.{zip-length, zip-at}
 use Rattle.lists.specs.Every.{every, every-append, every-replicate}
@@ -21,6 +20,10 @@ not-least = leZ (neg 32767)
 -- a section's coefficient at each sample of the four stretches
 unfoldable pub spread : ℤ → ℤ → ℤ → ℤ → List ℤ
 spread a b c d = replicate 13 a ++ (replicate 14 b ++ (replicate 13 c ++ replicate 120 d))
+
+-- section i's, from the coefficients of the four stretches
+abbrev pub own : List ℤ → List ℤ → List ℤ → List ℤ → ℕ → List ℤ
+own first second third fourth i = spread (first at i) (second at i) (third at i) (fourth at i)
 
 -- di after a section, from its coefficient, its cell and di at each sample
 abbrev pub further : List ℤ → List ℤ → List ℤ → List ℤ
@@ -56,13 +59,6 @@ unfolding stage
 stage-length n di sav rp u r d s =
     let p : length (u ∷ take n sav) ≡ suc n = omega (arith, length-take n sav) in
     (further-length (suc n) rp (u ∷ take n sav) di r p d, further-length (suc n) rp di (u ∷ take n sav) r d p)
-
--- a cell after the first sample holds the sav of the sample before
-pub delayed-at : (u : ℤ) (n : ℕ) (sav : List ℤ) (k : ℕ) → 1 ≤ k → k ≤ n → (u ∷ take n sav) at k ≡ sav at (k - 1)
-delayed-at u n sav zero a b = absurd (omega arith)
-delayed-at u n sav (suc k) a b =
-    let e : suc k - 1 ≡ k = omega arith in
-    rw e (getD-take n sav k (pos 0) (omega arith))
 
 -- ---- the coefficients of the four stretches
 

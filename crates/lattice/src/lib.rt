@@ -1,15 +1,17 @@
 // 4.2.10: short term analysis filtering. 001 takes each sample through the eight sections. A section is fed with nothing that comes after
 // it, so here each section takes all 160 samples, and the compiler can do several at once.
+ghost use Prim.Native.Nat.{_<_};
 ghost use mathlib.Core.Path.{_≡_};
 ghost use mathlib.Core.Bool.{true};
 ghost use mathlib.Core.List.{_∷_, zip};
 ghost use lib.IntN.{pos};
-ghost use lib.ListN.{length, take, replicate};
+ghost use lib.ListN.{length, drop, replicate};
 ghost use Rattle.lists.specs.Every.{every};
 ghost use Rattle.lists.specs.Scan.{run};
 ghost use Rattle.standard.specs.Arithmetic.{mult-r};
+ghost use Rattle.standard.specs.Tables.{_at_};
 ghost use Rattle.standard.specs.ShortTerm.{coefficients, analysed};
-ghost use Rattle.lattice.specs.Sections.{not-least, spread, further, saved, stage};
+ghost use Rattle.lattice.specs.Sections.{not-least, spread, own, further, saved, stage};
 
 // mult_r by a coefficient, which is not the least word: no limit can be met.
 fn term(rp: i16, x: i16) -> i16
@@ -39,15 +41,12 @@ fn spread(a: i16, b: i16, c: i16, d: i16, rp: &mut [i16])
     constant(d, &mut rp[40..160]);
 }
 
-// What a section's cell holds at each sample: u at the first, then the sample before.
-fn delayed(u: i16, sav: &[i16], prev: &mut [i16])
-    requires { ⌜ (length (now sav) ≡ 160) × (length (now prev) ≡ 160) ⌝ }
-    ensures { λ _. ⌜ now (prev .exit) ≡ u ∷ take 159 (now (sav .entry)) ⌝ }
+// Section i's, from the coefficients of the four stretches.
+fn own(i: usize, a: &[i16; 8], b: &[i16; 8], c: &[i16; 8], d: &[i16; 8], rp: &mut [i16])
+    requires { ⌜ (i < 8) × (length (now rp) ≡ 160) ⌝ }
+    ensures { λ _. ⌜ now (rp .exit) ≡ own (now (a .entry)) (now (b .entry)) (now (c .entry)) (now (d .entry)) i ⌝ }
 {
-    prev[0] = u;
-    for k in 1..160usize {
-        prev[k] = sav[k - 1];
-    }
+    spread(a[i], b[i], c[i], d[i], rp);
 }
 
 // di and sav become those that a section hands on, from its coefficient and its cell at each of the 160 samples.
@@ -66,17 +65,22 @@ fn section(rp: &[i16], prev: &[i16], di: &mut [i16], sav: &mut [i16])
     }
 }
 
-// A section over the 160 samples, from its coefficient at each and its cell: what it hands on, and its new cell. prev is room for 160.
-fn stage(rp: &[i16], u: i16, prev: &mut [i16], di: &mut [i16], sav: &mut [i16]) -> i16
-    requires { ⌜ ((length (now rp) ≡ 160) × (length (now prev) ≡ 160)) × ((length (now di) ≡ 160) × ((length (now sav) ≡ 160) × (every not-least (now rp) ≡ true))) ⌝ }
-    ensures di { λ _. ⌜ now (di .exit) ≡ stage 159 (now (di .entry), now (sav .entry)) (now (rp .entry), u) .0 .0 ⌝ }
-    ensures sav { λ _. ⌜ now (sav .exit) ≡ stage 159 (now (di .entry), now (sav .entry)) (now (rp .entry), u) .0 .1 ⌝ }
-    ensures u { λ r. ⌜ r ≡ stage 159 (now (di .entry), now (sav .entry)) (now (rp .entry), u) .1 ⌝ }
+// A section over the 160 samples, from its coefficient at each and its cell u. At a sample the cell holds the sav of
+// the sample before, and at the first u: so u is put before the 160 sav that come in, at p[0], and no sample is moved.
+// Those that go out stand in q in the same way, for the next section. It answers the new cell, the last sav in p.
+fn stage(rp: &[i16], u: i16, p: &mut [i16], di: &mut [i16], q: &mut [i16]) -> i16
+    requires { ⌜ ((length (now rp) ≡ 160) × (length (now p) ≡ 161))
+        × ((length (now di) ≡ 160) × ((length (now q) ≡ 161) × (every not-least (now rp) ≡ true))) ⌝ }
+    ensures p { λ _. ⌜ now (p .exit) ≡ u ∷ drop 1 (now (p .entry)) ⌝ }
+    ensures di { λ _. ⌜ now (di .exit)
+        ≡ stage 159 (now (di .entry), drop 1 (now (p .entry))) (now (rp .entry), u) .0 .0 ⌝ }
+    ensures q { λ _. ⌜ now (q .exit)
+        ≡ (now (q .entry) at 0) ∷ stage 159 (now (di .entry), drop 1 (now (p .entry))) (now (rp .entry), u) .0 .1 ⌝ }
+    ensures u { λ r. ⌜ r ≡ stage 159 (now (di .entry), drop 1 (now (p .entry))) (now (rp .entry), u) .1 ⌝ }
 {
-    delayed(u, sav, prev);
-    let last = sav[159];
-    section(rp, prev, di, sav);
-    last
+    p[0] = u;
+    section(rp, &p[0..160], di, &mut q[1..161]);
+    p[160]
 }
 
 // Room for 160 samples.
@@ -86,16 +90,16 @@ fn none() -> [i16; 160]
     [0; 160]
 }
 
-// sav starts as di does.
-fn copied(s: &[i16]) -> [i16; 160]
+// sav starts as di does, after room for a cell.
+fn after_cell(s: &[i16]) -> [i16; 161]
     requires { ⌜ length (now s) ≡ 160 ⌝ }
-    ensures { λ r. ⌜ r ≡ now (s .entry) ⌝ }
+    ensures { λ r. ⌜ r ≡ pos 0 ∷ now (s .entry) ⌝ }
 {
-    let mut sav = [0i16; 160];
+    let mut p = [0i16; 161];
     for k in 0..160usize {
-        sav[k] = s[k];
+        p[1 + k] = s[k];
     }
-    sav
+    p
 }
 
 // The 160 samples of s become those of d. u[0..7] are the cells; old and new the ratios of the frame before and of this one.
@@ -108,13 +112,18 @@ pub fn filtered(u: [i16; 8], old: [i16; 8], new: [i16; 8], s: &mut [i16]) -> [i1
     let second = shortterm::coefficients(1, old, new);
     let third = shortterm::coefficients(2, old, new);
     let fourth = shortterm::coefficients(3, old, new);
-    let mut sav = copied(s);
-    let mut prev = none();
+    let mut p = after_cell(s);
+    let mut q = [0i16; 161];
     let mut rp = none();
-    let mut after = [0i16; 8];
-    for i in 0..8usize {
-        spread(first[i], second[i], third[i], fourth[i], &mut rp[0..160]);
-        after[i] = stage(&rp[0..160], u[i], &mut prev[0..160], s, &mut sav[0..160]);
+    let mut kept = [0i16; 8];
+    // Two sections a turn: sav goes from p to q and back.
+    for j in 0..4usize {
+        let i = 2 * j;
+        let k = i + 1;
+        own(i, &first, &second, &third, &fourth, &mut rp);
+        kept[i] = stage(&rp, u[i], &mut p, s, &mut q);
+        own(k, &first, &second, &third, &fourth, &mut rp);
+        kept[k] = stage(&rp, u[k], &mut q, s, &mut p);
     }
-    after
+    kept
 }

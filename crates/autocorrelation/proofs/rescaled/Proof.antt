@@ -1,3 +1,4 @@
+-- Each sample shifted back, where the factor is above 0.
 use Prim.Native.Nat.{_-_, _≤_}
 use mathlib.Core.Path.{_≡_, refl, sym, ap, _∙_}
 use mathlib.Core.List.{map}

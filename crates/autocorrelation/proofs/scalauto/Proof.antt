@@ -1,3 +1,4 @@
+-- The factor by its two cases: silence, or 4 less the norm of the largest size.
 use Prim.Native.Nat.{_*_, _%_}
 use mathlib.Core.Path.{_≡_, sym, ap, _∙_}
 use mathlib.Core.Bool.{true}

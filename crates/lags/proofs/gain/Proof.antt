@@ -1,3 +1,4 @@
+-- The gain code by the three ways of 4.2.11: no positive sum, a power that is reached, a level.
 use mathlib.Core.Path.{_≡_, ap, ap₂, _∙_}
 use mathlib.Core.Bool.{true, false}
 use lib.IntN.{pos}

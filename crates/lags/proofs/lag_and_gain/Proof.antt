@@ -1,3 +1,4 @@
+-- What each call gives, joined: scaling, search, rescaling, power and gain.
 use Prim.Native.Nat.{ℕ, _+_}
 use mathlib.Core.Path.{_≡_, ap, ap₂, _∙_}
 use mathlib.Core.List.{List}

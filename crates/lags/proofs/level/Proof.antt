@@ -1,3 +1,4 @@
+-- The first of three levels that R does not exceed, or 3.
 use mathlib.Core.Path.{_≡_, ap₂, _∙_}
 use mathlib.Core.Bool.{true, false}
 use lib.Signed.{leZ}

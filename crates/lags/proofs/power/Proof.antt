@@ -1,3 +1,4 @@
+-- The power at the lag is the sum of squares of the part that the lag reaches.
 use mathlib.Core.Path.{refl, ap, _∙_}
 use native.Mathlib.Omega.{arith}
 use borrow.Author.Needs.{needs}

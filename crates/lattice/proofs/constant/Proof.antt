@@ -1,3 +1,4 @@
+-- One coefficient written at each place of a part.
 use Prim.Native.Nat.{_-_, _≤_}
 use mathlib.Core.Path.{_≡_, refl, sym}
 use native.Mathlib.Omega.{arith}

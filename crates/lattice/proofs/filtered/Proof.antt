@@ -1,214 +1,260 @@
-use Prim.Native.Nat.{ℕ, _-_, _≤_, _<_}
+-- A turn is two sections, and the second is as the first with the two lists exchanged: one law of the next section serves both.
+use Prim.Native.Nat.{ℕ, _+_, _*_, _-_, _≤_, _<_}
 use mathlib.Core.Path.{_≡_, refl, sym, ap, _∙_}
 use mathlib.Core.Bool.{true}
-use mathlib.Core.List.{List, [], _++_, append-nil, zip}
+use mathlib.Core.List.{List, zip}
 use native.Mathlib.Omega.{arith}
-use native.Mathlib.Nat.{le-of-eq}
-use borrow.Author.Needs.{needs, sfits-of}
+use borrow.Author.Needs.{needs, sfits-of, scaled-fits}
+use lib.Dec.{lit<}
 use lib.IntN.{ℤ, pos}
-use lib.ListN.{length, take, drop, length-set, drop-of-length-le}
-use lib.Seq.{take-all, length-take-le}
-use mir.Syntax.{w16}
-use mir.Val.{SFits}
+use lib.ListN.{length, drop, set}
+use mir.Syntax.{w16, w64}
+use mir.Val.{Fits, SFits}
+use Rattle.integers.specs.Halves.{mem}
 use Rattle.integers.specs.Ranges.{back, res}
-use Rattle.lists.specs.Scan.{run, Along, along-start, along-next, along-end}
+use Rattle.lists.specs.Scan.{run, along-start, along-end}
 use Rattle.lists.specs.Every.{every, every-at}
 use Rattle.standard.specs.Tables.{_at_}
 use Rattle.standard.specs.ShortTerm.{coefficients, analysed}
 use Rattle.shortterm.specs.Stretches.{rps}
 use Rattle.shortterm.specs.Bounds.{rps-above}
-use Rattle.lattice.specs.Sections.{not-least, spread, spread-every, spread-length, stage, stage-length}
-use Rattle.lattice.specs.Frame.{columns, pairs-eight, pairs-at, frame-is}
+use Rattle.lattice.specs.Sections.{not-least, own, spread-every, spread-length, stage}
+use Rattle.lattice.specs.Frame.{columns, pairs-eight, Done, done-next, frame-is}
 use Rattle.lattice.proofs.filtered.Statement.{statement}
 use Rattle.lattice.proofs.filtered.Tie as tie
 
 abbrev Inv-loop : tie.InvT-loop
-Inv-loop s₀ u first second third fourth sav₀ prev₀ rp₀ after₀ i₀ s sav prev rp after i =
-    (i ≤ 8)
-    × (length s ≡ 160)
-    × (length sav ≡ 160)
-    × (length prev ≡ 160)
-    × (length rp ≡ 160)
-    × (length after ≡ 8)
-    × Along (stage 159) (s₀, sav₀) (zip (columns first second third fourth) u) (s, sav) i after
+Inv-loop s₀ u first second third fourth p₀ q₀ rp₀ kept₀ j₀ s p q rp kept j =
+    (j ≤ 4) × (length rp ≡ 160) × Done first second third fourth u s₀ (2 * j) s p q kept
 
 abbrev μ-loop : tie.MeasureT-loop
-μ-loop s₀ u first second third fourth sav₀ prev₀ rp₀ after₀ i₀ s sav prev rp after i = 8 - i
+μ-loop s₀ u first second third fourth p₀ q₀ rp₀ kept₀ j₀ s p q rp kept j = 4 - j
 
--- the start of the call, and the loop, of a turn
-abbrev start : tie.At-loop Inv-loop μ-loop → tie.Start Inv-loop μ-loop
-start b = b .before .before .before .before .before .before .before .before .before
+-- ---- before the loop
 
-abbrev turn : tie.After-spread Inv-loop μ-loop → tie.At-loop Inv-loop μ-loop
-turn c = c .before .before .before .before .before .before .before
+-- the cells, and the coefficients of the four stretches
+module _ (r : tie.After-coefficients4 Inv-loop μ-loop) where
+  abbrev start : tie.Start Inv-loop μ-loop
+  start = r .before .before .before .before
 
-copied-requires : tie.Need-copied-requires Inv-loop μ-loop
-copied-requires c κs = c .before .before .before .before .before .pre
+  abbrev cells : List ℤ
+  cells = start .args .t1
+
+  abbrev first : List ℤ
+  first = r .before .before .before .coefficients .result
+
+  abbrev second : List ℤ
+  second = r .before .before .coefficients2 .result
+
+  abbrev third : List ℤ
+  third = r .before .coefficients3 .result
+
+  abbrev fourth : List ℤ
+  fourth = r .coefficients4 .result
+
+  -- so many sections are done
+  abbrev Past : ℕ → List ℤ → List ℤ → List ℤ → List ℤ → Type 0
+  Past = Done first second third fourth cells (start .args .s .now)
+
+  -- each is eight long
+  eight : (length cells ≡ 8) × (length first ≡ 8) × (length second ≡ 8) × (length third ≡ 8) × (length fourth ≡ 8)
+  eight = (search needs, search needs, search needs, search needs, search needs)
+
+  -- no coefficient is the least word
+  own-above : (i : ℕ) → i < 8 → every not-least (own first second third fourth i) ≡ true
+  own-above i h =
+      spread-every not-least (first at i) (second at i) (third at i) (fourth at i)
+      (above 0 first (r .before .before .before .coefficients .ensures) (eight .1))
+      (above 1 second (r .before .before .coefficients2 .ensures) (eight .2))
+      (above 2 third (r .before .coefficients3 .ensures) (eight .3))
+      (above 3 fourth (r .coefficients4 .ensures) (eight .4))
+    where
+      above : (n : ℕ) (xs : List ℤ) → xs ≡ rps n (start .args .old) (start .args .new) → length xs ≡ 8 → not-least (xs at i) ≡ true
+      above n xs e l = every-at not-least xs i (pos 0) (rw e (rps-above n _ _)) (omega arith)
+
+  -- a section has one for each sample
+  own-length : (i : ℕ) {rp : List ℤ} → rp ≡ own first second third fourth i → length rp ≡ 160
+  own-length i e = ap length e ∙ spread-length (first at i) (second at i) (third at i) (fourth at i)
+
+  -- so the next section may be handed its own
+  asked : {i : ℕ} {rp di p q kept : List ℤ} → i < 8 → rp ≡ own first second third fourth i → Past i di p q kept
+      → ((length rp ≡ 160) × (length p ≡ 161)) × ((length di ≡ 160) × ((length q ≡ 161) × (every not-least rp ≡ true)))
+  asked {i} l e d = ((own-length i e, d .p-length), (d .di-length, (d .q-length, ap (every not-least) e ∙ own-above i l)))
+
+after-cell-requires : tie.Need-after-cell-requires Inv-loop μ-loop
+after-cell-requires c κs = start (c .before) .pre
 
 loop-holds : tie.Need-loop-holds Inv-loop μ-loop
 loop-holds c =
-    let s = c .before .before .before .before .before .before .before .before in
-    (search needs, s .pre, search needs, search needs, search needs, refl, along-start (stage 159) (s .args .s .now, _) _ _)
+    let a = c .before in
+    let r = a .before .before in
+    let s = start r .args .s .now in
+    let e : drop 1 (a .after-cell .result) ≡ s = ap (drop 1) (a .after-cell .ensures) in (
+      search needs,
+      search needs,
+      record {
+        di-length = start r .pre;
+        p-length = search needs;
+        q-length = refl;
+        kept-length = refl;
+        along = rw e (along-start (stage 159) (s, s) (zip (columns (first r) (second r) (third r) (fourth r)) (cells r)) _);
+      },
+    )
 
-spread-requires : tie.Need-spread-requires Inv-loop μ-loop
-spread-requires c κs = let b = c .before .before .before .before .before .before in length-take-le 160 (b .loop .rp) (le-of-eq (sym (b .loop .inv .4)))
+-- ---- a turn: section i, and then section k
 
--- the cells, the old ratios and the new ones are eight each
-eight : (c : tie.Start Inv-loop μ-loop) → (length (c .args .t1) ≡ 8) × (length (c .args .old) ≡ 8) × (length (c .args .new) ≡ 8)
-eight c = (search needs, search needs, search needs)
+module _ (b : tie.At-loop Inv-loop μ-loop) where
+  abbrev before-loop : tie.After-coefficients4 Inv-loop μ-loop
+  before-loop = b .before .before .before .before
 
--- so are the coefficients of each stretch
-eight-0 : (c : tie.After-coefficients Inv-loop μ-loop) → length (c .coefficients .result) ≡ 8
-eight-0 c = search needs
+module _ (t : tie.In-loop Inv-loop μ-loop) where
+  abbrev known : tie.After-coefficients4 Inv-loop μ-loop
+  known = before-loop (t .before)
 
-eight-1 : (c : tie.After-coefficients2 Inv-loop μ-loop) → length (c .coefficients2 .result) ≡ 8
-eight-1 c = search needs
+  abbrev i-of : ℕ
+  i-of = 2 * t .before .loop .j
 
-eight-2 : (c : tie.After-coefficients3 Inv-loop μ-loop) → length (c .coefficients3 .result) ≡ 8
-eight-2 c = search needs
+  abbrev k-of : ℕ
+  k-of = i-of + 1
 
-eight-3 : (c : tie.After-coefficients4 Inv-loop μ-loop) → length (c .coefficients4 .result) ≡ 8
-eight-3 c = search needs
+  i-below : i-of < 8
+  i-below = let l = t .loop-test .taken in omega arith
 
--- what a whole array is after it was lent
-lent : (xs y : List ℤ) → length xs ≡ 160 → y ++ drop 160 xs ≡ y
-lent xs y h = rw (drop-of-length-le xs {i = 160} (le-of-eq h)) (append-nil y)
+  k-below : k-of < 8
+  k-below = let l = t .loop-test .taken in omega arith
 
--- the coefficients of section i in the four stretches, at each sample
-abbrev own : tie.At-loop Inv-loop μ-loop → List ℤ
-own b =
-    let k = b .before .before .before .before .before in
-    let i = b .loop .i in
-    spread
-    (k .before .before .before .coefficients .result at i)
-    (k .before .before .coefficients2 .result at i)
-    (k .before .coefficients3 .result at i)
-    (k .coefficients4 .result at i)
+-- section i's coefficients are read,
+module _ (e : tie.After-own Inv-loop μ-loop) where
+  abbrev lent : tie.After-fourth Inv-loop μ-loop
+  lent = e .before .before
 
--- are what spread has written
-spread-is : (c : tie.After-spread Inv-loop μ-loop) → c .spread .last .1 .1 .1 .1 .0 ≡ own (turn c)
-spread-is c =
-    let a₄ = c .before .before in
-    let a₃ = a₄ .before in
-    let a₂ = a₃ .before in
-    let a₁ = a₂ .before in
-    same (c .spread .ensures) (back (sfits-of (a₁ .spread-arg .given))) (back (sfits-of (a₂ .spread-arg2 .given))) (back (sfits-of (a₃ .spread-arg3 .given)))
-    (back (sfits-of (a₄ .spread-arg4 .given)))
-  where
-    same : {xs : List ℤ} {a b c d a′ b′ c′ d′ : ℤ}
-        → xs ≡ spread a b c d → a ≡ a′ → b ≡ b′ → c ≡ c′ → d ≡ d′ → xs ≡ spread a′ b′ c′ d′
-    same e p q r s = rw (p, q, r, s) at e
+  abbrev turn : tie.In-loop Inv-loop μ-loop
+  turn = lent .before .before .before .before
 
--- and what the section is handed
-rp-is : (c : tie.After-spread Inv-loop μ-loop) → take 160 (c .spread .last .1 .1 .1 .1 .0 ++ drop 160 (turn c .loop .rp)) ≡ own (turn c)
-rp-is c =
-    let b = turn c in
-    ap (take 160) (lent (b .loop .rp) _ (b .loop .inv .4) ∙ spread-is c) ∙ take-all 160 (own b) (le-of-eq (spread-length _ _ _ _))
+-- and its cell;
+module _ (a : tie.After-stage-arg Inv-loop μ-loop) where
+  abbrev rp-at : tie.After-own Inv-loop μ-loop
+  rp-at = a .before .before .before
 
--- none of them is the least word
-above : (j : ℕ) (old new xs : List ℤ) (i : ℕ) → xs ≡ rps j old new → length xs ≡ 8 → i < 8 → not-least (xs at i) ≡ true
-above j old new xs i e n h = every-at not-least xs i (pos 0) (rw e (rps-above j old new)) (omega arith)
+-- it is done, and sav went from p to q
+module _ (c : tie.After-stage Inv-loop μ-loop) where
+  abbrev cell : tie.After-stage-arg Inv-loop μ-loop
+  cell = c .before .before .before .before
 
-part-stage-end : tie.Need-part-stage-end Inv-loop μ-loop
-part-stage-end c =
-    let p = c .before .before in
-    let b = turn p in
-    le-of-eq (sym (ap length (lent (b .loop .rp) _ (b .loop .inv .4) ∙ spread-is p) ∙ spread-length _ _ _ _))
+  abbrev turn-one : tie.In-loop Inv-loop μ-loop
+  turn-one = turn (rp-at cell)
+
+  abbrev kept-one : List ℤ
+  kept-one = set (turn-one .before .loop .kept) (i-of turn-one) (mem w16 (c .stage .result))
+
+  done-one : Past (known turn-one) (k-of turn-one)
+      (c .stage .last .1 .1 .1 .0) (c .stage .last .1 .1 .1 .1 .0) (c .stage .last .1 .1 .0) kept-one
+  done-one =
+      let t = turn-one in
+      let u : SFits w16 (cells (known t) at i-of t) = sfits-of (cell .stage-arg .given) in
+      done-next _ _ _ _ _ _ (t .before .loop .inv .2) (eight (known t) .0) (i-below t) (rp-at cell .own .ensures) (back u)
+      (c .stage .ensures .0) (c .stage .ensures .1 .0) (c .stage .ensures .1 .1 .0) (c .stage .ensures .1 .1 .1) (res (c .stage))
 
 stage-requires : tie.Need-stage-requires Inv-loop μ-loop
 stage-requires c κs =
-    let p = c .before .before .before .before .before .before .before in
-    let b = turn p in
-    let k₃ = b .before .before .before .before .before in
-    let k₂ = k₃ .before in
-    let k₁ = k₂ .before in
-    let k₀ = k₁ .before in
-    let i = b .loop .i in
-    let l : i < 8 = p .before .before .before .before .before .before .loop-test .taken in
-    let a₀ = above _ _ _ (k₀ .coefficients .result) i (k₀ .coefficients .ensures) (eight-0 k₀) l in
-    let a₁ = above _ _ _ (k₁ .coefficients2 .result) i (k₁ .coefficients2 .ensures) (eight-1 k₁) l in
-    let a₂ = above _ _ _ (k₂ .coefficients3 .result) i (k₂ .coefficients3 .ensures) (eight-2 k₂) l in
-    let a₃ = above _ _ _ (k₃ .coefficients4 .result) i (k₃ .coefficients4 .ensures) (eight-3 k₃) l in
-    let least = ap (every not-least) (rp-is p) ∙ spread-every not-least _ _ _ _ a₀ a₁ a₂ a₃ in (
-      (ap length (rp-is p) ∙ spread-length _ _ _ _, length-take-le 160 (b .loop .prev) (le-of-eq (sym (b .loop .inv .3)))),
-      (b .loop .inv .1, (length-take-le 160 (b .loop .sav) (le-of-eq (sym (b .loop .inv .2))), least)),
-    )
+    let e = rp-at (c .before .before .before) in
+    let t = turn e in
+    asked (known t) (i-below t) (e .own .ensures) (t .before .loop .inv .2)
 
--- a stage's three results, put together, of what passed through lent parts and locals
-stage-parts : (s sav rp : List ℤ) (u : ℤ) {sav′ rp′ d v : List ℤ} {u′ r : ℤ} → sav′ ≡ sav → rp′ ≡ rp → u′ ≡ u
-    → let t = stage 159 (s, sav′) (rp′, u′) in
-    d ≡ t .0 .0 → v ≡ t .0 .1 → r ≡ t .1 → _≡_ {A = (List ℤ × List ℤ) × ℤ} ((d, v), r) (stage 159 (s, sav) (rp, u))
-stage-parts s sav rp u f g h a b c = rw (← f, ← g, ← h, a, b, c) refl
+-- section k's coefficients are read,
+module _ (e : tie.After-own2 Inv-loop μ-loop) where
+  abbrev lent2 : tie.After-fourth2 Inv-loop μ-loop
+  lent2 = e .before .before
 
--- what a stage hands on, and its new cell
-stage-is : (c : tie.After-stage Inv-loop μ-loop) → let b = turn (c .before .before .before .before .before .before .before .before) in
-    _≡_ {A = (List ℤ × List ℤ) × ℤ} ((c .stage .last .1 .1 .1 .0, c .stage .last .1 .1 .1 .1 .0), c .stage .result)
-    (stage 159 (b .loop .s, b .loop .sav) (own b, start b .args .t1 at b .loop .i))
-stage-is c =
-    let p = c .before .before .before .before .before .before .before .before in
-    let b = turn p in
-    let u = start b .args .t1 at b .loop .i in
-    let f : SFits w16 u = sfits-of (c .before .before .before .before .stage-arg2 .given) in
-    stage-parts (b .loop .s) (b .loop .sav) (own b) u
-    (take-all 160 (b .loop .sav) (le-of-eq (b .loop .inv .2))) (rp-is p) (back f)
-    (c .stage .ensures .0) (c .stage .ensures .1 .0) (c .stage .ensures .1 .1)
+  abbrev half : tie.After-q2 Inv-loop μ-loop
+  half = lent2 .before .before .before .before
+
+  abbrev one : tie.After-stage Inv-loop μ-loop
+  one = half .before .before .before
+
+-- and its cell;
+module _ (a : tie.After-stage-arg3 Inv-loop μ-loop) where
+  abbrev rp2-at : tie.After-own2 Inv-loop μ-loop
+  rp2-at = a .before .before .before
+
+-- it is done, and sav went from q to p
+module _ (c : tie.After-stage2 Inv-loop μ-loop) where
+  abbrev cell2 : tie.After-stage-arg3 Inv-loop μ-loop
+  cell2 = c .before .before .before .before
+
+  abbrev one-of : tie.After-stage Inv-loop μ-loop
+  one-of = one (rp2-at cell2)
+
+  abbrev turn-two : tie.In-loop Inv-loop μ-loop
+  turn-two = turn-one one-of
+
+  abbrev kept-two : List ℤ
+  kept-two = set (kept-one one-of) (k-of turn-two) (mem w16 (c .stage2 .result))
+
+  done-two : Past (known turn-two) (k-of turn-two + 1)
+      (c .stage2 .last .1 .1 .1 .0) (c .stage2 .last .1 .1 .1 .1 .0) (c .stage2 .last .1 .1 .0) kept-two
+  done-two =
+      let t = turn-two in
+      let u : SFits w16 (cells (known t) at k-of t) = sfits-of (cell2 .stage-arg3 .given) in
+      done-next _ _ _ _ _ _ (done-one one-of) (eight (known t) .0) (k-below t) (rp2-at cell2 .own2 .ensures) (back u)
+      (c .stage2 .ensures .0) (c .stage2 .ensures .1 .0) (c .stage2 .ensures .1 .1 .0) (c .stage2 .ensures .1 .1 .1) (res (c .stage2))
+
+stage-requires-2 : tie.Need-stage-requires-2 Inv-loop μ-loop
+stage-requires-2 c κs =
+    let e = rp2-at (c .before .before .before) in
+    let t = turn-one (one e) in
+    asked (known t) (k-below t) (e .own2 .ensures) (done-one (one e))
+
+-- so one turn of four is done
+module _ (c : tie.After-p4 Inv-loop μ-loop) where
+  abbrev two : tie.After-stage2 Inv-loop μ-loop
+  two = c .before .before .before
+
+  abbrev turn-done : tie.In-loop Inv-loop μ-loop
+  turn-done = turn-two two
+
+fewer : (j : ℕ) → j < 4 → Fits w64 (j + 1) × (4 - (j + 1) < 4 - j) × (j + 1 ≤ 4) × (2 * j + 1 + 1 ≡ 2 * (j + 1))
+fewer j h = (search needs, omega arith, omega arith, omega arith)
+
+loop-less : tie.Need-loop-less Inv-loop μ-loop
+loop-less c = fewer _ (turn-done c .loop-test .taken) .1
 
 loop-again : tie.Need-loop-again Inv-loop μ-loop
 loop-again c =
-    let e = c .before .before .before in
-    let p = e .before .before .before .before .before .before .before .before in
-    let b = turn p in
-    let k = b .before .before .before .before .before in
-    let i = b .loop .i in
-    let l : i < 8 = p .before .before .before .before .before .before .loop-test .taken in
-    let u = start b .args .t1 in
-    let n : length u ≡ 8 = eight (start b) .0 in
-    let r₀ = k .before .before .before .coefficients .result in
-    let r₁ = k .before .before .coefficients2 .result in
-    let r₂ = k .before .coefficients3 .result in
-    let r₃ = k .coefficients4 .result in
-    let new = stage-is e in
-    let (n₀, n₁) = stage-length 159 (b .loop .s) (b .loop .sav) (own b) (u at i) (spread-length _ _ _ _) (b .loop .inv .1) (b .loop .inv .2) in
-    let sav = lent (b .loop .sav) (e .stage .last .1 .1 .1 .1 .0) (b .loop .inv .2) in
-    let cells : length (e .stage .last .1 .1 .0) ≡ 160 =
-    e .stage .kept .1 .1 .0 ∙ length-take-le 160 (b .loop .prev) (le-of-eq (sym (b .loop .inv .3))) in (
-      search needs,
-      ap (λ (t : (List ℤ × List ℤ) × ℤ). length (t .0 .0)) new ∙ n₀,
-      ap length sav ∙ (ap (λ (t : (List ℤ × List ℤ) × ℤ). length (t .0 .1)) new ∙ n₁),
-      ap length (lent (b .loop .prev) (e .stage .last .1 .1 .0) (b .loop .inv .3)) ∙ cells,
-      ap length (lent (b .loop .rp) _ (b .loop .inv .4) ∙ spread-is p) ∙ spread-length _ _ _ _,
-      simp length-set (b .loop .inv .5),
-      along-next (stage 159) _ (zip (columns r₀ r₁ r₂ r₃) u) ([], pos 0) {x = (own b, u at i)} (b .loop .inv .6)
-          (rw (pairs-eight r₀ r₁ r₂ r₃ u n) l) (rw (b .loop .inv .5) l) (pairs-at r₀ r₁ r₂ r₃ u i n l)
-          (ap (λ (v : List ℤ). (e .stage .last .1 .1 .1 .0, v)) sav ∙ ap (λ (t : (List ℤ × List ℤ) × ℤ). t .0) new)
-          (res (e .stage) ∙ ap (λ (t : (List ℤ × List ℤ) × ℤ). t .1) new),
-    )
+    let t = turn-done c in
+    let (_, _, f, g) = fewer _ (t .loop-test .taken) in
+    (f, own-length (known t) (k-of t) (rp2-at (cell2 (two c)) .own2 .ensures), rw g at (done-two (two c)))
+
+-- ---- after the loop
 
 same-length : tie.Need-same-length Inv-loop μ-loop
-same-length c = c .before .loop .inv .1 ∙ sym (c .before .before .before .before .before .before .before .before .before .before .pre)
+same-length c = let b = c .before in b .loop .inv .2 .di-length ∙ sym (start (before-loop b) .pre)
 
 -- the whole, from what was computed before the loop
-whole : (u old new s sav first second third fourth : List ℤ) → length u ≡ 8 → length old ≡ 8 → length new ≡ 8 → length s ≡ 160
-    → sav ≡ s → first ≡ rps 0 old new → second ≡ rps 1 old new → third ≡ rps 2 old new → fourth ≡ rps 3 old new
-    → run analysed u (zip (coefficients old new) s) ≡ (let t = run (stage 159) (s, sav) (zip (columns first second third fourth) u) in (t .1, t .0 .0))
-whole u old new s sav first second third fourth a b c d e e₀ e₁ e₂ e₃ = rw (e, e₀, e₁, e₂, e₃) (frame-is u old new s a b c d)
+whole : (u old new s first second third fourth : List ℤ) → length u ≡ 8 → length old ≡ 8 → length new ≡ 8 → length s ≡ 160
+    → first ≡ rps 0 old new → second ≡ rps 1 old new → third ≡ rps 2 old new → fourth ≡ rps 3 old new
+    → run analysed u (zip (coefficients old new) s)
+    ≡ (let t = run (stage 159) (s, s) (zip (columns first second third fourth) u) in (t .1, t .0 .0))
+whole u old new s first second third fourth a b c d e₀ e₁ e₂ e₃ = rw (e₀, e₁, e₂, e₃) (frame-is u old new s a b c d)
 
 returns : tie.Need-returns Inv-loop μ-loop
 returns c =
     let b = c .before in
-    let o = b .before .before .before in
-    let k₃ = o .before .before in
-    let k₂ = k₃ .before in
-    let k₁ = k₂ .before in
-    let k₀ = k₁ .before in
-    let s = k₀ .before in
-    let n = eight s in
+    let d = b .loop .inv .2 in
+    let r = before-loop b in
+    let s = start r in
     let w =
-    whole (s .args .t1) (s .args .old) (s .args .new) (s .args .s .now) _ _ _ _ _ (n .0) (n .1) (n .2) (s .pre)
-    (o .copied .ensures) (k₀ .coefficients .ensures) (k₁ .coefficients2 .ensures) (k₂ .coefficients3 .ensures) (k₃ .coefficients4 .ensures) in
-    let m = pairs-eight (k₀ .coefficients .result) (k₁ .coefficients2 .result) (k₂ .coefficients3 .result) (k₃ .coefficients4 .result) (s .args .t1) (n .0) in
-    let (f, g) = along-end (stage 159) _ _ (b .loop .inv .6) (omega (arith, m)) (omega arith) in
+    whole (cells r) (s .args .old) (s .args .new) (s .args .s .now) (first r) (second r) (third r) (fourth r)
+    (eight r .0) (search needs) (search needs) (s .pre)
+    (r .before .before .before .coefficients .ensures) (r .before .before .coefficients2 .ensures) (r .before .coefficients3 .ensures)
+    (r .coefficients4 .ensures) in
+    let m = pairs-eight (first r) (second r) (third r) (fourth r) (cells r) (eight r .0) in
+    let (f, g) = along-end (stage 159) _ _ (d .along) (omega (arith, m)) (omega (arith, d .kept-length)) in
     rw w (g, ap (λ (t : List ℤ × List ℤ). t .0) f)
+
+-- a word's place among eight does not wrap
+place-fits : {i : ℕ} → i < 8 → Fits w64 (i * 2)
+place-fits {i} h = scaled-fits i 8 2 h (lit< tt)
 
 pub filtered-spec : {M : Type 1} → statement M
 filtered-spec =
@@ -220,28 +266,13 @@ filtered-spec =
     (λ c κs. search needs)
     (λ c κs. search needs)
     (λ c κs. search needs)
-    copied-requires
-    (λ c κs. search needs)
+    after-cell-requires
     (λ c κs. search needs)
     loop-holds
     (λ c. search needs)
     (λ c. search needs)
     (λ c. search needs)
-    (λ c. search needs)
-    (λ c. search needs)
-    (λ c. search needs)
-    (λ c. search needs)
-    (λ c. search needs)
-    (λ c. search needs)
-    (λ c. search needs)
-    (λ c. search needs)
-    spread-requires
-    (λ c. search needs)
-    (λ c. search needs)
-    part-stage-end
-    (λ c. search needs)
-    (λ c. search needs)
-    (λ c. search needs)
+    (λ c κs. search needs)
     (λ c. search needs)
     (λ c. search needs)
     (λ c. search needs)
@@ -251,7 +282,17 @@ filtered-spec =
     (λ c. search needs)
     (λ c. search needs)
     (λ c. search needs)
+    (λ c κs. search needs)
     (λ c. search needs)
+    (λ c. search needs)
+    (λ c. search needs)
+    (λ c. search needs)
+    (λ c. search needs)
+    stage-requires-2
+    (λ c. place-fits (k-below (turn-done c)))
+    (λ c. k-below (turn-done c))
+    (λ c. fewer _ (turn-done c .loop-test .taken) .0)
+    loop-less
     loop-again
     same-length
     returns)

@@ -1,3 +1,4 @@
+-- A section over all samples: at each turn one di and one sav, as the definition has them at that place.
 use Prim.Native.Nat.{_-_, _≤_}
 use mathlib.Core.Path.{_≡_, refl, sym, ap₂, _∙_}
 use native.Mathlib.Omega.{arith}

@@ -1,3 +1,4 @@
+-- The rounded product is mult_r, since the coefficient is not the least word.
 use Prim.Native.Nat.{ℕ, _+_}
 use mathlib.Core.Path.{_≡_, sym, _∙_}
 use mathlib.Core.Bool.{true}

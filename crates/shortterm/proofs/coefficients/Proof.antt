@@ -1,3 +1,4 @@
+-- The eight coefficients of a stretch, one a turn.
 use Prim.Native.Nat.{_-_, _≤_}
 use mathlib.Core.Path.{_≡_, refl}
 use mathlib.Core.List.{List}

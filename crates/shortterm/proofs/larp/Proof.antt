@@ -1,3 +1,4 @@
+-- The interpolation of each of the four stretches.
 use mathlib.Core.Path.{sym, _∙_}
 use native.Mathlib.Omega.{arith}
 use borrow.Author.Needs.{needs}

@@ -1,3 +1,4 @@
+-- A decoded ratio: 4.2.8 step by step.
 use borrow.Author.Needs.{needs}
 use mir.Syntax.{w16}
 use Rattle.integers.specs.Ranges.{back, res}

@@ -1,3 +1,4 @@
+-- Only a strictly greater sum replaces the one before.
 use mathlib.Core.Path.{_≡_}
 use mathlib.Core.Bool.{true, false}
 use lib.Signed.{ltZ}

@@ -1,3 +1,4 @@
+-- The plain sum of the squares so far, doubled at the end: there is room, so no limit is met.
 use Prim.Native.Nat.{ℕ, _-_, _*_, _^_, _≤_, _<_}
 use mathlib.Core.Path.{_≡_, refl, _∙_}
 use mathlib.Core.List.{List, map}

@@ -1,3 +1,4 @@
+-- The plain sum of the products so far, doubled at the end: there is room, so no limit is met.
 use Prim.Native.Nat.{_-_, _≤_}
 use mathlib.Core.Path.{_≡_, refl, _∙_}
 use native.Mathlib.Omega.{arith}

@@ -1,3 +1,4 @@
+-- The larger of two, by the way the test goes.
 use Rattle.integers.specs.Ranges.{back}
 use Rattle.sums.proofs.larger.Statement.{statement}
 use Rattle.sums.proofs.larger.Tie as tie

@@ -1,3 +1,4 @@
+-- The five taps, their pairs and the rounding, step by step within 32 bits, and the one limit at the end.
 use Prim.Native.Nat.{ℕ, _+_, _≤_}
 use mathlib.Core.Path.{_≡_, sym, ap, ap₂, _∙_}
 use mathlib.Core.List.{List}

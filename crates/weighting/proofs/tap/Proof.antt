@@ -1,3 +1,4 @@
+-- A tap times a sum of two words fits 32 bits.
 use Prim.Native.Nat.{_+_, _*_, _≤_}
 use mathlib.Core.Path.{_≡_, ap₂, _∙_}
 use native.Mathlib.Omega.{arith}

@@ -1,3 +1,4 @@
+-- Each of the 40 outputs from its eleven samples, one a turn.
 use Prim.Native.Nat.{_+_, _-_, _≤_}
 use mathlib.Core.Path.{_≡_, refl, sym, ap, _∙_}
 use native.Mathlib.Omega.{arith}
