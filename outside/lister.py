@@ -1,18 +1,22 @@
 """The programs' other runs: what the lister does with lengths, pieces, an input that cannot be read, an output that cannot be written, the limit; what
-encode and decode do with bytes left over, in 16 bits and in A-law; what outside/program says of them all; what make run explains.
+encode and decode do with bytes left over, in 16 bits and in A-law; what all do with more frames than they read at a time, with a pipe that waits for
+their answer and with a line that is hung up; what outside/program says of them all; what make run explains.
 
 They cannot set an exit status. What they can do is say it on standard error, and end."""
 import os
 import platform
+import pty
 import random
 import re
 import subprocess
 import threading
 import time
+import tty
 from array import array
 
 import signals
-from differences import Difference, at, first_place, kept, same_lines
+from differences import Difference, at, first_place, kept, same_bytes, same_lines
+from given import contents
 from peers import BUILD, HERE, PROGRAM, ours, second
 
 # a lister that waits for ever is ended after so many seconds; an emulator takes some to start, and many for the limit
@@ -23,8 +27,7 @@ SILENT = ('F\t{0}\tsilent\t32\t32\t20\t11\t8\t5\t3\t2\n'
 
 
 def speech():
-    with open(signals.SPEECH, 'rb') as file:
-        return file.read()
+    return contents(signals.SPEECH)
 
 
 def inputs():
@@ -133,12 +136,16 @@ def unwritable():
 FRAME_BYTES = {'encode': (320, 152), 'decode': (152, 320), 'encode_alaw': (160, 152), 'decode_alaw': (152, 160)}
 
 
+def told_rest(rest):
+    return b'%d bytes are left over, less than a frame: not coded\n' % rest if rest else b''
+
+
 def left_over():
     """Handed a frame and some bytes: the frame is coded, and the bytes are counted on standard error. expand takes all."""
     for name, (size, answer) in FRAME_BYTES.items():
         for more in (0, 1, size - 1):
             _, written, said = ended(f'{more} bytes left over', [PROGRAM, name], input=bytes(size + more), stdout=subprocess.PIPE)
-            if len(written) != answer or said != (b'%d bytes are left over, less than a frame: not coded\n' % more if more else b''):
+            if len(written) != answer or said != told_rest(more):
                 raise Difference(f'{name} with {more} bytes left over writes {len(written)} bytes and says {said!r}')
     print(f'{", ".join(FRAME_BYTES)}: bytes left over after the last frame are not coded, and are counted on standard error')
     for size in (0, 1, 159, 161):
@@ -146,6 +153,90 @@ def left_over():
         if len(written) != 2 * size or said:
             raise Difference(f'expand with {size} octets writes {len(written)} bytes and says {said!r}')
     print('expand: 0, 1, 159 and 161 octets: a sample for each')
+
+
+# so many frames are read at a time, where they have come
+ROOM = 64
+# of each program, how many bytes of a frame go in, and the second codec's word for what it does; both ends together it has not
+CODERS = {'lister': (320, 'list'), 'encode': (320, 'encode'), 'decode': (152, 'decode'), 'encode_alaw': (160, 'encode-alaw'),
+          'decode_alaw': (152, 'decode-alaw'), 'expand': (160, 'expand'), 'together': (320, None)}
+
+
+def material():
+    """Of each program its name, the bytes of a frame, and more than two rooms of them."""
+    voice, octets = 2 * speech(), 2 * contents(signals.ALAW)
+    codewords = second('encode', voice)
+    for name, (size, _) in CODERS.items():
+        yield name, size, octets if size == 160 else codewords if size == 152 else voice
+
+
+def whole_answer(name, given):
+    mode = CODERS[name][1]
+    return second(mode, given) if mode else ours(name, given)
+
+
+def due(name, given):
+    """What must be written once these bytes have come and no more: the answer, but for the last line of one that ends in a line of its own."""
+    answer = whole_answer(name, given)
+    return b''.join(answer.splitlines(True)[:-1]) if name in ('lister', 'together') else answer
+
+
+def many_frames():
+    """Inputs that end around the room's end, from a file, so that each read fills the room."""
+    for name, size, given in material():
+        for length in [size * frames for frames in (ROOM - 1, ROOM, ROOM + 1, 2 * ROOM, 2 * ROOM + 1)] + [size * ROOM + size - 1]:
+            path = os.path.join(BUILD, '..', kept('frames.raw', given[:length]))
+            with open(path, 'rb') as file:
+                _, written, said = ended(f'{length} bytes for {name}', [PROGRAM, name], stdin=file, stdout=subprocess.PIPE)
+            os.remove(path)
+            same_bytes(f'{name} of {length} bytes', ('the second codec' if CODERS[name][1] else 'a pipe', whole_answer(name, given[:length])), ('ours', written))
+            if said != (b'' if name in ('lister', 'expand') else told_rest(length % size)):
+                raise Difference(f'{name} of {length} bytes says {said!r}')
+    print(f'{", ".join(CODERS)}: {ROOM - 1} to {2 * ROOM + 1} frames, read {ROOM} at a time: as the second codec has them; together as through a pipe')
+
+
+def in_turn(name, given, places):
+    """Hands over an input up to one place after another. What is due at each must come before anything more is sent."""
+    written = b''
+    with subprocess.Popen([PROGRAM, name], stdin=subprocess.PIPE, stdout=subprocess.PIPE, stderr=subprocess.DEVNULL, bufsize=0) as process:
+        watch = watched(process, PATIENCE)
+        for start, end in zip((0, *places), places):
+            process.stdin.write(given[start:end])
+            want = due(name, given[:end])
+            while len(written) < len(want) and (part := process.stdout.read(len(want) - len(written))):
+                written += part
+            same_bytes(f'{name}, sent {end} bytes and no more', ('what is due', want), ('ours', written))
+        process.stdin.close()
+        written += process.stdout.readall()
+        watch.cancel()
+    same_bytes(f'{name}, sent {places[-1]} bytes', ('the whole answer', whole_answer(name, given[:places[-1]])), ('ours', written))
+
+
+def waiting():
+    """A pipe that waits for the answer to a frame, seven bytes after it; and pieces that end just before, at and behind the room's end."""
+    for name, size, given in material():
+        room = ROOM * size
+        in_turn(name, given, (size + 7, room - 1, room, room + 1, 2 * room + 11, 2 * room + size))
+        in_turn(name, given, (7, room + 7, 2 * room - 1, 2 * room + 1))
+    print(f'{", ".join(CODERS)}: a frame is answered before more is sent, and so are pieces that end around the room\'s end')
+
+
+def hung_up():
+    """A line that is hung up after a frame and seven bytes: what has come is answered, it says that it cannot read, and gives no last line."""
+    for name, size, given in material():
+        line, far = pty.openpty()
+        tty.setraw(far)
+        with subprocess.Popen([PROGRAM, name], stdin=line, stdout=subprocess.PIPE, stderr=subprocess.PIPE) as process:
+            os.close(line)
+            os.write(far, given[:size + 7])
+            os.close(far)
+            watch = watched(process, PATIENCE)
+            written, said = process.communicate()
+            watch.cancel()
+        same_bytes(f'{name} on a line that is hung up', ('what is due', due(name, given[:size + 7])), ('ours', written))
+        if said != b'standard input cannot be read\n':
+            raise Difference(f'{name} on a line that is hung up says {said!r}')
+    print(f'{", ".join(CODERS)}: a line that is hung up after a frame: the frame is answered, and they say that they cannot read')
 
 
 def programs():
@@ -200,6 +291,9 @@ def other_runs():
     unreadable()
     unwritable()
     left_over()
+    many_frames()
+    waiting()
+    hung_up()
     explained()
     quoted()
     if emulated():
@@ -215,8 +309,13 @@ def emulated():
 
 
 def feed(stream, more):
+    """The first frame goes alone, so that the limit falls within the frames of a read."""
     try:
-        for _ in range(FRAMES // 1000):
+        stream.write(bytes(320))
+        stream.flush()
+        time.sleep(2)
+        stream.write(bytes(320 * 999))
+        for _ in range(FRAMES // 1000 - 1):
             stream.write(bytes(320 * 1000))
         stream.write(bytes(more))
         stream.close()
@@ -254,5 +353,7 @@ def limit_run(more, last):
 
 
 def limit():
+    """Nothing after the last frame, a byte, and two frames, the first of which is read with the last."""
     limit_run(0, 'end')
     limit_run(1, 'limit')
+    limit_run(640, 'limit')

@@ -1,45 +1,87 @@
 // Encodes a file of samples to a file of codewords, both as 001's annex A3 has them, from home: SEQxx.INP to SEQxx.COD.
 use encoder::Encoder;
+ghost use mathlib.Core.Path.{_≡_};
+ghost use Prim.Native.Nat.{_*_, _≤_, _<_};
+ghost use lib.ListN.{length};
+ghost use Rattle.encoder.specs.Promise.{coder};
+ghost use Rattle.streams.specs.Frames.{Through};
+ghost use Rattle.encode.specs.Frame.{encoded};
 
-// The encoder after a frame, and whether there may be another.
+// The encoder after a turn, how many bytes of a frame that is not whole yet are kept, and whether there may be more.
 struct After {
     state: Encoder,
+    there: usize,
     more: bool,
 }
 
-// 160 samples read, 76 codewords written.
-fn turn(e: Encoder) -> After {
-    let mut bytes = [0; 320];
-    let got = streams::fill(&mut bytes);
+// 160 samples in, 76 codewords out.
+fn frame(e: Encoder, bytes: &[u8], out: &mut [u8]) -> Encoder
+    requires { ⌜ (length (now bytes) ≡ 320) × (length (now out) ≡ 152) ⌝ }
+    ensures state { λ r. ⌜ coder r ≡ encoded (coder e) (now (bytes .entry)) .0 ⌝ }
+    ensures bytes { λ _. ⌜ now (out .exit) ≡ encoded (coder e) (now (bytes .entry)) .1 ⌝ }
+{
+    let mut samples = [0; 160];
+    files::words(bytes, &mut samples);
+    let mut codewords = [0; 76];
+    let coded = e.encode(&samples, &mut codewords);
+    files::bytes(&codewords, out);
+    coded.state
+}
+
+// So many frames, one behind the other in either room.
+fn code(e: Encoder, frames: usize, bytes: &[u8], out: &mut [u8]) -> Encoder
+    requires { ⌜ (320 * frames ≤ length (now bytes)) × (152 * frames ≤ length (now out)) ⌝ }
+    ensures { λ r. ⌜ Through encoded 320 (coder e) frames (now (bytes .entry)) (now (out .entry))
+        (coder r) (152 * frames) (now (out .exit)) ⌝ }
+{
+    let mut state = e;
+    for i in 0..frames {
+        let from = 320 * i;
+        let to = 152 * i;
+        state = frame(state, &bytes[from..from + 320], &mut out[to..to + 152]);
+    }
+    state
+}
+
+// What has come is coded and written; what makes no frame yet is kept for the next turn.
+fn turn(e: Encoder, there: usize, room: &mut [u8], out: &mut [u8]) -> After
+    requires { ⌜ (there < 320) × (length (now room) ≡ 20480) × (length (now out) ≡ 9728) ⌝ }
+    ensures { λ r. ⌜ r .there < 320 ⌝ }
+{
+    let got = streams::gather(there, 320, room);
     if !streams::whole(got, 320) {
         return After {
             state: e,
+            there: 0,
             more: false,
         };
     }
-    let mut samples = [0; 160];
-    files::words(&bytes, &mut samples);
-    let mut codewords = [0; 76];
-    let coded = e.encode(&samples, &mut codewords);
-    let next = coded.state;
-    let mut out = [0; 152];
-    files::bytes(&codewords, &mut out);
+    let frames = got.count / 320;
+    let next = code(e, frames, room, out);
+    let rest = streams::keep(320 * frames, got.count, room);
+    let end = 152 * frames;
     After {
         state: next,
-        more: streams::written(io::write_all(1, &out)),
+        there: rest,
+        more: streams::written(io::write_all(1, &out[0..end])),
     }
 }
 
-// Nothing says that an input ends, so the turns are counted down, from a number that is 2.7 years of speech.
+// Nothing says that an input ends, so the turns are counted down. Each codes a frame or more, so they are 2.7 years of
+// speech at least.
 fn main() {
+    let mut room = [0; 20480];
+    let mut out = [0; 9728];
     let mut state = Encoder::home();
+    let mut there: usize = 0;
     let mut turns = 4294967295u32;
     while 0 < turns {
-        let t = turn(state);
+        let t = turn(state, there, &mut room, &mut out);
         if !t.more {
             return;
         }
         state = t.state;
+        there = t.there;
         turns = turns - 1;
     }
 }

@@ -1,43 +1,85 @@
 // Encodes a file of A-law octets to a file of codewords, as 001's annex A3 has them, from home.
 use encoder::Encoder;
+ghost use mathlib.Core.Path.{_≡_};
+ghost use Prim.Native.Nat.{_*_, _≤_, _<_};
+ghost use lib.ListN.{length};
+ghost use Rattle.encoder.specs.Promise.{coder};
+ghost use Rattle.streams.specs.Frames.{Through};
+ghost use Rattle.encode_alaw.specs.Frame.{encoded};
 
-// The encoder after a frame, and whether there may be another.
+// The encoder after a turn, how many octets of a frame that is not whole yet are kept, and whether there may be more.
 struct After {
     state: Encoder,
+    there: usize,
     more: bool,
 }
 
-// 160 octets read, 76 codewords written.
-fn turn(e: Encoder) -> After {
-    let mut octets = [0; 160];
-    let got = streams::fill(&mut octets);
+// 160 octets in, 76 codewords out.
+fn frame(e: Encoder, octets: &[u8], out: &mut [u8]) -> Encoder
+    requires { ⌜ (length (now octets) ≡ 160) × (length (now out) ≡ 152) ⌝ }
+    ensures state { λ r. ⌜ coder r ≡ encoded (coder e) (now (octets .entry)) .0 ⌝ }
+    ensures bytes { λ _. ⌜ now (out .exit) ≡ encoded (coder e) (now (octets .entry)) .1 ⌝ }
+{
+    let mut codewords = [0; 76];
+    let coded = e.encode_alaw(octets, &mut codewords);
+    files::bytes(&codewords, out);
+    coded.state
+}
+
+// So many frames, one behind the other in either room.
+fn code(e: Encoder, frames: usize, octets: &[u8], out: &mut [u8]) -> Encoder
+    requires { ⌜ (160 * frames ≤ length (now octets)) × (152 * frames ≤ length (now out)) ⌝ }
+    ensures { λ r. ⌜ Through encoded 160 (coder e) frames (now (octets .entry)) (now (out .entry))
+        (coder r) (152 * frames) (now (out .exit)) ⌝ }
+{
+    let mut state = e;
+    for i in 0..frames {
+        let from = 160 * i;
+        let to = 152 * i;
+        state = frame(state, &octets[from..from + 160], &mut out[to..to + 152]);
+    }
+    state
+}
+
+// What has come is coded and written; what makes no frame yet is kept for the next turn.
+fn turn(e: Encoder, there: usize, room: &mut [u8], out: &mut [u8]) -> After
+    requires { ⌜ (there < 160) × (length (now room) ≡ 10240) × (length (now out) ≡ 9728) ⌝ }
+    ensures { λ r. ⌜ r .there < 160 ⌝ }
+{
+    let got = streams::gather(there, 160, room);
     if !streams::whole(got, 160) {
         return After {
             state: e,
+            there: 0,
             more: false,
         };
     }
-    let mut codewords = [0; 76];
-    let coded = e.encode_alaw(&octets, &mut codewords);
-    let next = coded.state;
-    let mut out = [0; 152];
-    files::bytes(&codewords, &mut out);
+    let frames = got.count / 160;
+    let next = code(e, frames, room, out);
+    let rest = streams::keep(160 * frames, got.count, room);
+    let end = 152 * frames;
     After {
         state: next,
-        more: streams::written(io::write_all(1, &out)),
+        there: rest,
+        more: streams::written(io::write_all(1, &out[0..end])),
     }
 }
 
-// Nothing says that an input ends, so the turns are counted down, from a number that is 2.7 years of speech.
+// Nothing says that an input ends, so the turns are counted down. Each codes a frame or more, so they are 2.7 years of
+// speech at least.
 fn main() {
+    let mut room = [0; 10240];
+    let mut out = [0; 9728];
     let mut state = Encoder::home();
+    let mut there: usize = 0;
     let mut turns = 4294967295u32;
     while 0 < turns {
-        let t = turn(state);
+        let t = turn(state, there, &mut room, &mut out);
         if !t.more {
             return;
         }
         state = t.state;
+        there = t.there;
         turns = turns - 1;
     }
 }

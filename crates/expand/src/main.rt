@@ -1,26 +1,58 @@
 // Expands a file of A-law octets to a file of samples, low byte first, as encode and lister read them. Every octet is a sample, so nothing
 // is left over.
+ghost use mathlib.Core.Path.{_≡_};
+ghost use Prim.Native.Nat.{_*_};
+ghost use lib.ListN.{length};
+ghost use Rattle.standard.specs.Alaw.{alaw-samples};
+ghost use Rattle.standard.specs.Files.{file-bytes};
 
-// As many octets as 160 read, and each expanded; whether there may be more.
-fn turn() -> bool {
-    let mut octets = [0; 160];
-    let got = streams::fill(&mut octets);
-    let mut samples = [0; 160];
-    alaw::samples(&octets, &mut samples);
-    let mut bytes = [0; 320];
-    files::bytes(&samples, &mut bytes);
-    let end = 2 * got.count;
-    let out = streams::written(io::write_all(1, &bytes[0..end]));
-    streams::readable(got) && out && got.count == 160
+// The bytes of the samples that octets stand for.
+fn expand(octets: &[u8], samples: &mut [i16], out: &mut [u8])
+    requires { ⌜ (length (now samples) ≡ length (now octets)) × (length (now out) ≡ 2 * length (now samples)) ⌝ }
+    ensures { λ _. ⌜ now (out .exit) ≡ file-bytes (alaw-samples (now (octets .entry))) ⌝ }
+{
+    alaw::samples(octets, samples);
+    files::bytes(samples, out);
+}
+
+// What has come is expanded and written; whether there may be more.
+fn turn(octets: &mut [u8], samples: &mut [i16], out: &mut [u8]) -> bool
+    requires { ⌜ (length (now octets) ≡ 10240) × (length (now samples) ≡ 10240) × (length (now out) ≡ 20480) ⌝ }
+{
+    let got = streams::gather(0, 1, octets);
+    if !streams::whole(got, 1) {
+        return false;
+    }
+    let count = got.count;
+    let end = 2 * count;
+    expand(&octets[0..count], &mut samples[0..count], &mut out[0..end]);
+    streams::written(io::write_all(1, &out[0..end]))
+}
+
+// 160 turns, each of at least an octet; whether there may be more.
+fn turns(octets: &mut [u8], samples: &mut [i16], out: &mut [u8]) -> bool
+    requires { ⌜ (length (now octets) ≡ 10240) × (length (now samples) ≡ 10240) × (length (now out) ≡ 20480) ⌝ }
+{
+    let mut left = 160u32;
+    while 0 < left {
+        if !turn(octets, samples, out) {
+            return false;
+        }
+        left = left - 1;
+    }
+    true
 }
 
 // Nothing says that an input ends, so the turns are counted down, from a number that is 2.7 years of speech.
 fn main() {
-    let mut turns = 4294967295u32;
-    while 0 < turns {
-        if !turn() {
+    let mut octets = [0; 10240];
+    let mut samples = [0; 10240];
+    let mut out = [0; 20480];
+    let mut frames = 4294967295u32;
+    while 0 < frames {
+        if !turns(&mut octets, &mut samples, &mut out) {
             return;
         }
-        turns = turns - 1;
+        frames = frames - 1;
     }
 }

@@ -1,10 +1,22 @@
 // 01's lister: samples from standard input, the lines of their frames to standard output.
 use listing::Lister;
-ghost use Prim.Native.Nat.{_≤_};
+ghost use mathlib.Core.Path.{_≡_};
+ghost use Prim.Native.Nat.{_+_, _-_, _*_, _≤_};
+ghost use lib.ListN.{length};
+ghost use Rattle.text.specs.Written.{Puts};
+ghost use Rattle.listing.specs.Promise.{state, listed};
+ghost use Rattle.streams.specs.Frames.{Through};
 
-// The lister after a frame, and whether there may be another.
+// The lister after frames, and where their text ends.
+struct Text {
+    state: Lister,
+    end: usize,
+}
+
+// The lister after a turn, how many bytes that are not listed yet are kept, and whether there may be more.
 struct After {
     state: Lister,
+    there: usize,
     more: bool,
 }
 
@@ -15,39 +27,94 @@ fn print(text: [u8; 1024], length: usize) -> bool
     streams::written(io::write_all(1, &text[..length]))
 }
 
-// The E line, after so many bytes that make no frame.
+// The E line, after so many bytes that are not listed.
 fn end(l: Lister, rest: usize)
-    requires { ⌜ rest ≤ 320 ⌝ }
+    requires { ⌜ rest ≤ 20480 ⌝ }
 {
     let mut text = [0; 1024];
     let length = l.ended(rest as u32, &mut text);
     print(text, length);
 }
 
-// A frame read and listed. Where no whole frame is left, or the limit is reached, the last line.
-fn turn(l: Lister) -> After {
-    let mut bytes = [0; 320];
-    let got = streams::fill(&mut bytes);
+// A frame's lines, from a place on.
+fn frame(l: Lister, bytes: &[u8], at: usize, out: &mut [u8]) -> Text
+    requires { ⌜ (length (now bytes) ≡ 320) × (at + 1024 ≤ length (now out)) ⌝ }
+    ensures state { λ r. ⌜ state (r .state) ≡ listed (state l) (now (bytes .entry)) .0 ⌝ }
+    ensures lines { λ r. ⌜ Puts at (listed (state l) (now (bytes .entry)) .1) (now (out .entry)) (r .end)
+        (now (out .exit)) ⌝ }
+    ensures room { λ r. ⌜ r .end ≤ at + 1024 ⌝ }
+{
+    let mut own = [0; 320];
+    text::text(bytes, 0, &mut own);
+    let mut lines = [0; 1024];
+    let f = l.listed(&own, &mut lines);
+    let next = f.state;
+    let length = f.length;
+    Text {
+        state: next,
+        end: text::text(&lines[0..length], at, out),
+    }
+}
+
+// The lines of so many frames, one behind the other.
+fn list(l: Lister, frames: usize, bytes: &[u8], out: &mut [u8]) -> Text
+    requires { ⌜ (320 * frames ≤ length (now bytes)) × (1024 * frames ≤ length (now out)) ⌝ }
+    ensures lists { λ r. ⌜ Through listed 320 (state l) frames (now (bytes .entry)) (now (out .entry))
+        (state (r .state)) (r .end) (now (out .exit)) ⌝ }
+    ensures room { λ r. ⌜ r .end ≤ 1024 * frames ⌝ }
+{
+    let mut state = l;
+    let mut end: usize = 0;
+    for i in 0..frames {
+        let from = 320 * i;
+        let t = frame(state, &bytes[from..from + 320], end, out);
+        state = t.state;
+        end = t.end;
+    }
+    Text {
+        state: state,
+        end: end,
+    }
+}
+
+// How many frames may still be listed.
+fn left(frames: u32) -> usize
+    ensures { λ r. ⌜ r ≡ 1000000 - frames ⌝ }
+{
+    if 1000000 < frames {
+        return 0;
+    }
+    (1000000 - frames) as usize
+}
+
+// What has come is listed and written; what makes no frame yet is kept for the next turn. Where no whole frame is left,
+// or the limit is reached, the last line.
+fn turn(l: Lister, there: usize, room: &mut [u8], out: &mut [u8]) -> After
+    requires { ⌜ (there ≤ 20480) × (length (now room) ≡ 20480) × (length (now out) ≡ 65536) ⌝ }
+    ensures { λ r. ⌜ r .there ≤ 20480 ⌝ }
+{
+    let got = streams::gather(there, 320, room);
+    let stopped = After {
+        state: l,
+        there: 0,
+        more: false,
+    };
     if !streams::readable(got) {
-        return After {
-            state: l,
-            more: false,
-        };
+        return stopped;
     }
-    if got.count < 320 || 1000000 <= l.frames {
+    let frames = streams::frames(got.count, 320, left(l.frames));
+    if frames == 0 {
         end(l, got.count);
-        return After {
-            state: l,
-            more: false,
-        };
+        return stopped;
     }
-    let mut text = [0; 1024];
-    let listed = l.listed(&bytes, &mut text);
-    let next = listed.state;
-    let length = listed.length;
+    let t = list(l, frames, room, out);
+    let rest = streams::keep(320 * frames, got.count, room);
+    let next = t.state;
+    let length = t.end;
     After {
         state: next,
-        more: print(text, length),
+        there: rest,
+        more: streams::written(io::write_all(1, &out[0..length])),
     }
 }
 
@@ -57,14 +124,18 @@ fn main() {
     if !print(text, length) {
         return;
     }
+    let mut room = [0; 20480];
+    let mut out = [0; 65536];
     let mut state = Lister::start();
+    let mut there: usize = 0;
     let mut turns = 1000001u32;
     while 0 < turns {
-        let t = turn(state);
+        let t = turn(state, there, &mut room, &mut out);
         if !t.more {
             return;
         }
         state = t.state;
+        there = t.there;
         turns = turns - 1;
     }
 }

@@ -1,11 +1,13 @@
 // Standard input, for the programs, and what is said on standard error. What a read gives and whether a write succeeds no promise can say.
 ghost use mathlib.Core.Path.{_≡_};
 ghost use mathlib.Core.Bool.{not, _&&_};
-ghost use Prim.Native.Nat.{_≤_};
-ghost use lib.Dec.{eqb};
-ghost use lib.ListN.{length};
+ghost use mathlib.Core.List.{_++_};
+ghost use Prim.Native.Nat.{_-_, _/_, _≤_, _<_, min};
+ghost use lib.Dec.{leb};
+ghost use lib.ListN.{length, take, drop};
+ghost use Rattle.streams.specs.Promise.{Gathered};
 
-// How many bytes were read; and whether reading failed, where they are fewer than there was room for.
+// How many bytes are there after reading; and whether a read failed, where they are fewer than were wanted.
 pub struct Filled {
     pub count: usize,
     pub failed: bool,
@@ -22,12 +24,14 @@ fn read(room: &mut [u8]) -> Filled
     }
 }
 
-// Reads until the room is full, the input ends or a read fails. A pipe gives its bytes in pieces.
-pub fn fill(room: &mut [u8]) -> Filled
-    ensures { λ r. ⌜ r .count ≤ length (now (room .exit)) ⌝ }
+// Reads behind the bytes that are there, as much as each read gives, until there are at least so many, the input ends
+// or a read fails. A pipe gives its bytes in pieces, and what it has given need not wait for more.
+pub fn gather(there: usize, least: usize, room: &mut [u8]) -> Filled
+    requires { ⌜ (there ≤ length (now room)) × (least ≤ length (now room)) ⌝ }
+    ensures { λ r. ⌜ Gathered there least (now (room .entry)) r (now (room .exit)) ⌝ }
 {
-    let mut done: usize = 0;
-    while done < room.len() {
+    let mut done = there;
+    while done < least {
         let more = read(&mut room[done..]);
         if more.count == 0 {
             return Filled {
@@ -41,6 +45,29 @@ pub fn fill(room: &mut [u8]) -> Filled
         count: done,
         failed: false,
     }
+}
+
+// How many frames of so many bytes the bytes make, up to a number that is given.
+pub fn frames(count: usize, size: usize, most: usize) -> usize
+    requires { ⌜ 0 < size ⌝ }
+    ensures { λ r. ⌜ r ≡ min (count / size) most ⌝ }
+{
+    let n = count / size;
+    if n < most { n } else { most }
+}
+
+// Moves what stands from a place on, as far as bytes were read, to the front, and answers how many bytes those are.
+pub fn keep(from: usize, count: usize, room: &mut [u8]) -> usize
+    requires { ⌜ (from ≤ count) × (count ≤ length (now room)) ⌝ }
+    ensures is { λ r. ⌜ r ≡ count - from ⌝ }
+    ensures moved { λ _. ⌜ now (room .exit)
+        ≡ take (count - from) (drop from (now (room .entry))) ++ drop (count - from) (now (room .entry)) ⌝ }
+{
+    let rest = count - from;
+    for i in 0..rest {
+        room[i] = room[from + i];
+    }
+    rest
 }
 
 // Whether reading went well. Where it failed, that is said on standard error.
@@ -63,13 +90,13 @@ fn say_rest(count: usize, size: usize) {
     }
 }
 
-// Whether a frame of so many bytes was read. What keeps it from that is said.
+// Whether there is a frame of so many bytes, or more than one. What keeps it from that is said.
 pub fn whole(got: Filled, size: usize) -> bool
-    ensures { λ r. ⌜ r ≡ (not (got .failed) && eqb (got .count) size) ⌝ }
+    ensures { λ r. ⌜ r ≡ (not (got .failed) && leb size (got .count)) ⌝ }
 {
     if readable(got) {
         say_rest(got.count, size);
-        return got.count == size;
+        return size <= got.count;
     }
     false
 }

@@ -6,7 +6,8 @@ use encoder::Encoder;
 ghost use mathlib.Core.Path.{_≡_};
 ghost use mathlib.Core.Bool.{true, cond};
 ghost use mathlib.Core.Logic.{_↔_};
-ghost use Prim.Native.Nat.{_+_, _≤_, _<_};
+ghost use Prim.Native.Nat.{_+_, _*_, _≤_, _<_};
+ghost use lib.ListN.{length};
 ghost use lib.IntN.{pos};
 ghost use Rattle.standard.specs.Arithmetic.{within};
 ghost use Rattle.standard.specs.Tables.{neg};
@@ -43,10 +44,23 @@ struct Outcome {
     verdict: Verdict,
 }
 
-// Both ends after a frame, how many frames were not together, and whether there may be another.
-struct After {
+// Both ends after so many frames, and how many of them were not together.
+struct Tally {
     pair: Pair,
+    frames: u32,
     apart: u32,
+}
+
+// The same, and where the frames' lines end.
+struct Lines {
+    tally: Tally,
+    end: usize,
+}
+
+// The same after a turn, how many bytes of a frame that is not whole yet are kept, and whether there may be more.
+struct After {
+    tally: Tally,
+    there: usize,
     more: bool,
 }
 
@@ -148,8 +162,8 @@ fn handed_over(n: u32, before: Pair, samples: [i16; 160]) -> Outcome
 }
 
 // A verdict's field, after its tab.
-fn verdict_field(v: Verdict, at: usize, out: &mut [u8; 64]) -> usize
-    requires { ⌜ at + 9 ≤ 64 ⌝ }
+fn verdict_field(v: Verdict, at: usize, out: &mut [u8]) -> usize
+    requires { ⌜ at + 9 ≤ length (now out) ⌝ }
     ensures { λ r. ⌜ r ≤ at + 9 ⌝ }
 {
     match v {
@@ -163,8 +177,8 @@ fn verdict_field(v: Verdict, at: usize, out: &mut [u8; 64]) -> usize
 }
 
 // Whether stray bits were set, after its tab.
-fn stray_field(stray: bool, at: usize, out: &mut [u8; 64]) -> usize
-    requires { ⌜ at + 6 ≤ 64 ⌝ }
+fn stray_field(stray: bool, at: usize, out: &mut [u8]) -> usize
+    requires { ⌜ at + 6 ≤ length (now out) ⌝ }
     ensures { λ r. ⌜ r ≤ at + 6 ⌝ }
 {
     if stray {
@@ -174,17 +188,17 @@ fn stray_field(stray: bool, at: usize, out: &mut [u8; 64]) -> usize
     }
 }
 
-// A frame's line.
-fn line(n: u32, o: Outcome, out: &mut [u8; 64]) -> usize
-    requires { ⌜ n ≤ 1000000 ⌝ }
-    ensures { λ r. ⌜ r ≤ 64 ⌝ }
+// A frame's line, from a place on.
+fn line(n: u32, o: Outcome, at: usize, out: &mut [u8]) -> usize
+    requires { ⌜ (n ≤ 1000000) × (at + 64 ≤ length (now out)) ⌝ }
+    ensures { λ r. ⌜ r ≤ at + 64 ⌝ }
 {
     let pair = o.pair;
     let e = pair.encoder;
     let dp = e.dp;
     let verdict = o.verdict;
     let loudest = [sums::peak(&dp)];
-    let number = text::decimal(n, 0, out);
+    let number = text::decimal(n, at, out);
     let how = stray_field(o.stray, number, out);
     let peak = text::fields(&loudest, how, out);
     let end = verdict_field(verdict, peak, out);
@@ -228,51 +242,104 @@ fn counted(v: Verdict, apart: u32) -> u32
     }
 }
 
-// Frame n read and handed over. Where no whole frame is left, the last line.
-fn turn(n: u32, pair: Pair, apart: u32) -> After
-    requires { ⌜ (n ≤ 1000000) × (apart < n) ⌝ }
-    ensures { λ r. ⌜ r .apart ≤ n ⌝ }
+// The next frame handed over, its line from a place on.
+fn frame(t: Tally, bytes: &[u8], at: usize, out: &mut [u8]) -> Lines
+    requires counted { ⌜ (t .frames < 1000000) × (t .apart ≤ t .frames) ⌝ }
+    requires room { ⌜ (length (now bytes) ≡ 320) × (at + 64 ≤ length (now out)) ⌝ }
+    ensures counted { λ r. ⌜ (r .tally .frames ≡ t .frames + 1) × (r .tally .apart ≤ r .tally .frames) ⌝ }
+    ensures room { λ r. ⌜ r .end ≤ at + 64 ⌝ }
 {
-    let mut bytes = [0; 320];
-    let got = streams::fill(&mut bytes);
+    let mut samples = [0; 160];
+    files::words(bytes, &mut samples);
+    let n = t.frames + 1;
+    let before = t.pair;
+    let o = handed_over(n, before, samples);
+    let after = o.pair;
+    let verdict = o.verdict;
+    let tally = Tally {
+        pair: after,
+        frames: n,
+        apart: counted(verdict, t.apart),
+    };
+    Lines {
+        tally: tally,
+        end: line(n, o, at, out),
+    }
+}
+
+// So many frames, their lines one behind the other.
+fn list(t: Tally, frames: usize, bytes: &[u8], out: &mut [u8]) -> Lines
+    requires counted { ⌜ (t .frames + frames ≤ 1000000) × (t .apart ≤ t .frames) ⌝ }
+    requires room { ⌜ (320 * frames ≤ length (now bytes)) × (64 * frames ≤ length (now out)) ⌝ }
+    ensures counted { λ r. ⌜ (r .tally .frames ≡ t .frames + frames) × (r .tally .apart ≤ r .tally .frames) ⌝ }
+    ensures room { λ r. ⌜ r .end ≤ 64 * frames ⌝ }
+{
+    let mut tally = t;
+    let mut end: usize = 0;
+    for i in 0..frames {
+        let from = 320 * i;
+        let f = frame(tally, &bytes[from..from + 320], end, out);
+        tally = f.tally;
+        end = f.end;
+    }
+    Lines {
+        tally: tally,
+        end: end,
+    }
+}
+
+// What has come is handed over and its lines are written; what makes no frame yet is kept for the next turn. Where no
+// whole frame is left, the last line.
+fn turn(t: Tally, there: usize, room: &mut [u8], out: &mut [u8]) -> After
+    requires counted { ⌜ (t .frames < 1000000) × (t .apart ≤ t .frames) ⌝ }
+    requires room { ⌜ (there ≤ 20480) × (length (now room) ≡ 20480) × (length (now out) ≡ 4096) ⌝ }
+    ensures counted { λ r. ⌜ (r .tally .frames ≤ 1000000) × (r .tally .apart ≤ r .tally .frames) ⌝ }
+    ensures room { λ r. ⌜ r .there ≤ 20480 ⌝ }
+    ensures more { λ r. ⌜ (r .more ≡ true → t .frames < r .tally .frames) ⌝ }
+{
+    let got = streams::gather(there, 320, room);
     if !streams::whole(got, 320) {
         if !got.failed {
-            end(n - 1, apart);
+            end(t.frames, t.apart);
         }
         return After {
-            pair: pair,
-            apart: apart,
+            tally: t,
+            there: 0,
             more: false,
         };
     }
-    let mut samples = [0; 160];
-    files::words(&bytes, &mut samples);
-    let o = handed_over(n, pair, samples);
-    let after = o.pair;
-    let verdict = o.verdict;
-    let mut text = [0; 64];
-    let length = line(n, o, &mut text);
+    let frames = streams::frames(got.count, 320, (1000000 - t.frames) as usize);
+    let lines = list(t, frames, room, out);
+    let rest = streams::keep(320 * frames, got.count, room);
+    let next = lines.tally;
+    let length = lines.end;
     After {
-        pair: after,
-        apart: counted(verdict, apart),
-        more: print(text, length),
+        tally: next,
+        there: rest,
+        more: streams::written(io::write_all(1, &out[0..length])),
     }
 }
 
 // Nothing says that an input ends, so the frames are counted, up to a number that is 5 hours of speech.
 fn main() {
-    let mut pair = Pair {
-        encoder: Encoder::home(),
-        decoder: Decoder::home(),
+    let mut room = [0; 20480];
+    let mut out = [0; 4096];
+    let mut tally = Tally {
+        pair: Pair {
+            encoder: Encoder::home(),
+            decoder: Decoder::home(),
+        },
+        frames: 0,
+        apart: 0,
     };
-    let mut apart = 0u32;
-    for n in 1..1000001u32 {
-        let t = turn(n, pair, apart);
+    let mut there: usize = 0;
+    while tally.frames < 1000000 {
+        let t = turn(tally, there, &mut room, &mut out);
         if !t.more {
             return;
         }
-        pair = t.pair;
-        apart = t.apart;
+        tally = t.tally;
+        there = t.there;
     }
-    end(1000000, apart);
+    end(1000000, tally.apart);
 }

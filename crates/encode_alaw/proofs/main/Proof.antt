@@ -1,15 +1,17 @@
--- The turns are counted down, so the program ends.
-use native.Mathlib.Omega.{arith}
+-- The rooms keep their lengths, what is kept is less than a frame, and the turns are counted down, so the program ends.
+use Prim.Native.Nat.{_<_}
+use mathlib.Core.Path.{_≡_}
+use lib.ListN.{length}
 use borrow.Author.Needs.{needs}
 use Rattle.encode_alaw.proofs.main.Statement.{statement}
 use Rattle.encode_alaw.proofs.main.Tie as tie
 
 abbrev Inv-loop : tie.InvT-loop
-Inv-loop state₀ turns₀ state turns = Unit {0}
+Inv-loop room₀ out₀ state₀ there₀ turns₀ room out state there turns = (there < 160) × (length room ≡ 10240) × (length out ≡ 9728)
 
 -- the turns that are left
 abbrev μ-loop : tie.MeasureT-loop
-μ-loop state₀ turns₀ state turns = turns
+μ-loop room₀ out₀ state₀ there₀ turns₀ room out state there turns = turns
 
 pub main-spec : {M : Type 1} → statement M
 main-spec =
@@ -18,10 +20,12 @@ main-spec =
     Inv-loop
     μ-loop
     (λ c κs. search needs)
-    (λ c. tt)
+    (λ c. search needs)
+    (λ c. search needs)
+    (λ c. search needs)
     (λ c κs. search needs)
-    (λ c. tt)
-    (λ c. omega arith)
-    (λ c. omega arith)
-    (λ c. tt)
-    (λ c. tt))
+    (λ c. search needs)
+    (λ c. search needs)
+    (λ c. search needs)
+    (λ c. search needs)
+    (λ c. search needs))

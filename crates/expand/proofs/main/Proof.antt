@@ -1,15 +1,16 @@
--- The turns are counted down, so the program ends.
-use native.Mathlib.Omega.{arith}
+-- The rooms keep their lengths, and the turns are counted down, so the program ends.
+use mathlib.Core.Path.{_≡_}
+use lib.ListN.{length}
 use borrow.Author.Needs.{needs}
 use Rattle.expand.proofs.main.Statement.{statement}
 use Rattle.expand.proofs.main.Tie as tie
 
 abbrev Inv-loop : tie.InvT-loop
-Inv-loop turns₀ turns = Unit {0}
+Inv-loop octets₀ samples₀ out₀ frames₀ octets samples out frames = (length octets ≡ 10240) × (length samples ≡ 10240) × (length out ≡ 20480)
 
 -- the turns that are left
 abbrev μ-loop : tie.MeasureT-loop
-μ-loop turns₀ turns = turns
+μ-loop octets₀ samples₀ out₀ frames₀ octets samples out frames = frames
 
 pub main-spec : {M : Type 1} → statement M
 main-spec =
@@ -17,10 +18,13 @@ main-spec =
     (tie.spec
     Inv-loop
     μ-loop
-    (λ c. tt)
+    (λ c. search needs)
+    (λ c. search needs)
+    (λ c. search needs)
+    (λ c. search needs)
     (λ c κs. search needs)
-    (λ c. tt)
-    (λ c. omega arith)
-    (λ c. omega arith)
-    (λ c. tt)
-    (λ c. tt))
+    (λ c. search needs)
+    (λ c. search needs)
+    (λ c. search needs)
+    (λ c. search needs)
+    (λ c. search needs))

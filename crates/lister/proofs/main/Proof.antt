@@ -1,14 +1,18 @@
-use native.Mathlib.Omega.{arith}
+-- The rooms keep their lengths, what is kept fits its room, and the turns are counted down, so the program ends.
+use Prim.Native.Nat.{_≤_}
+use mathlib.Core.Path.{_≡_}
+use lib.ListN as ListN
 use borrow.Author.Needs.{needs}
 use Rattle.lister.proofs.main.Statement.{statement}
 use Rattle.lister.proofs.main.Tie as tie
 
 abbrev Inv-loop : tie.InvT-loop
-Inv-loop length state₀ turns₀ state turns = Unit {0}
+Inv-loop length room₀ out₀ state₀ there₀ turns₀ room out state there turns =
+    (there ≤ 20480) × (ListN.length room ≡ 20480) × (ListN.length out ≡ 65536)
 
 -- the turns that are left
 abbrev μ-loop : tie.MeasureT-loop
-μ-loop length state₀ turns₀ state turns = turns
+μ-loop length room₀ out₀ state₀ there₀ turns₀ room out state there turns = turns
 
 pub main-spec : {M : Type 1} → statement M
 main-spec =
@@ -18,12 +22,14 @@ main-spec =
     μ-loop
     (λ c κs. search needs)
     (λ c κs. search needs)
-    (λ c. tt)
+    (λ c. search needs)
     (λ c κs. search needs)
-    (λ c. tt)
+    (λ c. search needs)
+    (λ c. search needs)
+    (λ c. search needs)
     (λ c κs. search needs)
-    (λ c. tt)
-    (λ c. omega arith)
-    (λ c. omega arith)
-    (λ c. tt)
-    (λ c. tt))
+    (λ c. search needs)
+    (λ c. search needs)
+    (λ c. search needs)
+    (λ c. search needs)
+    (λ c. search needs))

@@ -1,14 +1,26 @@
-use Prim.Native.Nat.{_-_, _≤_, _<_}
+-- The rooms keep their lengths, and each turn that goes on hands over a frame at least, so the program ends.
+use Prim.Native.Nat.{_-_, _≤_}
+use mathlib.Core.Path.{_≡_}
+use native.Mathlib.Omega.{arith}
+use lib.ListN.{length}
 use borrow.Author.Needs.{needs}
+use borrow.Author.Tests.{not-false}
 use Rattle.together.proofs.main.Statement.{statement}
 use Rattle.together.proofs.main.Tie as tie
 
 abbrev Inv-loop : tie.InvT-loop
-Inv-loop pair₀ apart₀ n₀ pair apart n = (n ≤ 1000001) × (apart < n)
+Inv-loop room₀ out₀ tally₀ there₀ room out tally there =
+    (tally .frames ≤ 1000000) × (tally .apart ≤ tally .frames) × (there ≤ 20480) × (length room ≡ 20480) × (length out ≡ 4096)
 
 -- the frames that are left
 abbrev μ-loop : tie.MeasureT-loop
-μ-loop pair₀ apart₀ n₀ pair apart n = 1000001 - n
+μ-loop room₀ out₀ tally₀ there₀ room out tally there = 1000000 - tally .frames
+
+loop-less : tie.Need-loop-less Inv-loop μ-loop
+loop-less c =
+    let on = c .before in
+    let t = on .before .before .before .before in
+    omega (arith, t .turn .ensures .1 .1 (not-false _ (on .if2 .left)))
 
 pub main-spec : {M : Type 1} → statement M
 main-spec =
@@ -19,10 +31,11 @@ main-spec =
     (λ c κs. search needs)
     (λ c κs. search needs)
     (λ c. search needs)
+    (λ c. search needs)
+    (λ c. search needs)
     (λ c κs. search needs)
     (λ c. search needs)
-    (λ c. search needs)
-    (λ c. search needs)
+    loop-less
     (λ c. search needs)
     (λ c κs. search needs)
     (λ c. search needs))

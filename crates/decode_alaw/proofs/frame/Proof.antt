@@ -1,0 +1,38 @@
+-- The codewords are the words of the bytes, and the octets that decode_alaw answers fill the room.
+use mathlib.Core.Path.{_≡_}
+use native.Mathlib.Omega.{arith}
+use lib.ListN.{length}
+use borrow.Author.Needs.{needs}
+use Rattle.streams.specs.Frames.{puts-all}
+use Rattle.decode_alaw.specs.Frame.{decoded}
+use Rattle.decode_alaw.proofs.frame.Statement.{statement}
+use Rattle.decode_alaw.proofs.frame.Tie as tie
+
+-- the octets are as many as the room takes
+as-many : (t : tie.After-decode-alaw) → length (t .decode-alaw .last .1 .1 .0) ≡ 160
+as-many t = search needs
+
+returns : tie.Need-returns
+unfolding decoded
+returns c =
+    let out = c .before .before .before in
+    let heard = out .before .before .before .before in
+    let codewords = heard .before .before .before .before in
+    let start = codewords .before .before .before .before in
+    let d = heard .decode-alaw .ensures in
+    let full = puts-all (heard .decode-alaw .last .1 .1 .0) (start .args .out .now) (out .text .ensures) (omega (arith, as-many heard)) in
+    (rw (codewords .words .ensures) at (d .state), rw (full, d .octets, codewords .words .ensures))
+
+pub frame-spec : {M : Type 1} → statement M
+frame-spec =
+    tie.close
+    (tie.spec
+    (λ c. search needs)
+    (λ c κs. search needs)
+    (λ c. search needs)
+    (λ c. search needs)
+    (λ c κs. search needs)
+    (λ c. search needs)
+    (λ c κs. search needs)
+    (λ c. search needs)
+    returns)

@@ -1,0 +1,28 @@
+-- The samples are the words of the bytes, and the bytes left are those of the codewords that encode answers.
+use borrow.Author.Needs.{needs}
+use Rattle.encode.specs.Frame.{encoded}
+use Rattle.encode.proofs.frame.Statement.{statement}
+use Rattle.encode.proofs.frame.Tie as tie
+
+returns : tie.Need-returns
+unfolding encoded
+returns c =
+    let out = c .before .before .before in
+    let coded = out .before .before .before .before in
+    let samples = coded .before .before .before .before in
+    let e = coded .encode .ensures in
+    (rw (samples .words .ensures) at (e .state), rw (out .bytes .ensures, e .codewords, samples .words .ensures))
+
+pub frame-spec : {M : Type 1} → statement M
+frame-spec =
+    tie.close
+    (tie.spec
+    (λ c. search needs)
+    (λ c κs. search needs)
+    (λ c. search needs)
+    (λ c. search needs)
+    (λ c κs. search needs)
+    (λ c. search needs)
+    (λ c κs. search needs)
+    (λ c. search needs)
+    returns)

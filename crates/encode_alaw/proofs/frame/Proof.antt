@@ -1,0 +1,23 @@
+-- The bytes left are those of the codewords that encode_alaw answers.
+use borrow.Author.Needs.{needs}
+use Rattle.encode_alaw.specs.Frame.{encoded}
+use Rattle.encode_alaw.proofs.frame.Statement.{statement}
+use Rattle.encode_alaw.proofs.frame.Tie as tie
+
+returns : tie.Need-returns
+unfolding encoded
+returns c =
+    let out = c .before .before .before in
+    let e = out .before .before .before .before .encode-alaw .ensures in
+    (e .state, rw (out .bytes .ensures, e .codewords))
+
+pub frame-spec : {M : Type 1} → statement M
+frame-spec =
+    tie.close
+    (tie.spec
+    (λ c. search needs)
+    (λ c κs. search needs)
+    (λ c. search needs)
+    (λ c κs. search needs)
+    (λ c. search needs)
+    returns)
