@@ -189,10 +189,12 @@ def many_frames():
             with open(path, 'rb') as file:
                 _, written, said = ended(f'{length} bytes for {name}', [PROGRAM, name], stdin=file, stdout=subprocess.PIPE)
             os.remove(path)
-            same_bytes(f'{name} of {length} bytes', ('the second codec' if CODERS[name][1] else 'a pipe', whole_answer(name, given[:length])), ('ours', written))
+            want = ('the second codec' if CODERS[name][1] else 'a pipe', whole_answer(name, given[:length]))
+            same_bytes(f'{name} of {length} bytes', want, ('ours', written))
             if said != (b'' if name in ('lister', 'expand') else told_rest(length % size)):
                 raise Difference(f'{name} of {length} bytes says {said!r}')
-    print(f'{", ".join(CODERS)}: {ROOM - 1} to {2 * ROOM + 1} frames, read {ROOM} at a time: as the second codec has them; together as through a pipe')
+    print(f'{", ".join(CODERS)}: {ROOM - 1} to {2 * ROOM + 1} frames, read {ROOM} at a time: as the second codec has them, together as through '
+          'a pipe')
 
 
 def in_turn(name, given, places):
@@ -201,7 +203,11 @@ def in_turn(name, given, places):
     with subprocess.Popen([PROGRAM, name], stdin=subprocess.PIPE, stdout=subprocess.PIPE, stderr=subprocess.DEVNULL, bufsize=0) as process:
         watch = watched(process, PATIENCE)
         for start, end in zip((0, *places), places):
-            process.stdin.write(given[start:end])
+            try:
+                process.stdin.write(given[start:end])
+            except BrokenPipeError:
+                # it has ended before its input did; what it has written shows it
+                pass
             want = due(name, given[:end])
             while len(written) < len(want) and (part := process.stdout.read(len(want) - len(written))):
                 written += part

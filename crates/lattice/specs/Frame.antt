@@ -29,10 +29,10 @@ pairs-eight first second third fourth u h = rw (pairs-length, tab-length) (omega
 
 -- and this is the one of section i
 pub pairs-at : (first second third fourth u : List ℤ) (i : ℕ) → length u ≡ 8 → i < 8
-    → (spread (first at i) (second at i) (third at i) (fourth at i), u at i) ≡ getD (zip (columns first second third fourth) u) i ([], pos 0)
+    → (own first second third fourth i, u at i) ≡ getD (zip (columns first second third fourth) u) i ([], pos 0)
 unfolding columns zip
 pairs-at first second third fourth u i h l =
-    let f : ℕ → List ℤ = λ i. spread (first at i) (second at i) (third at i) (fourth at i) in
+    let f : ℕ → List ℤ = own first second third fourth in
     sym
     (zip-at (λ r v. (r, v)) (tab f 0 8) u i [] (pos 0) ([], pos 0) (rw tab-length l) (omega arith)
     ∙ ap (λ (r : List ℤ). (r, u at i)) (tab-at-zero f 8 i [] l))
@@ -73,7 +73,7 @@ module _ (first second third fourth u s : List ℤ) where
 
 -- the columns are the coefficients of the samples, section by section
 column-is : (old new : List ℤ) (i : ℕ)
-    → column (coefficients old new) i ≡ spread (rps 0 old new at i) (rps 1 old new at i) (rps 2 old new at i) (rps 3 old new at i)
+    → column (coefficients old new) i ≡ own (rps 0 old new) (rps 1 old new) (rps 2 old new) (rps 3 old new) i
 unfolding spread
 column-is old new i = rw coefficients-are refl
 
@@ -84,6 +84,6 @@ pub frame-is : (u old new s : List ℤ) → length u ≡ 8 → length old ≡ 8 
 unfolding columns
 frame-is u old new s a b c d =
     let e : every (sized (length u)) (coefficients old new) ≡ true = rw a (coefficients-sized old new b c) in
-    let k : tab (column (coefficients old new)) 0 8 ≡ tab (λ i. spread (rps 0 old new at i) (rps 1 old new at i) (rps 2 old new at i) (rps 3 old new at i)) 0 8 =
+    let k : tab (column (coefficients old new)) 0 8 ≡ tab (own (rps 0 old new) (rps 1 old new) (rps 2 old new) (rps 3 old new)) 0 8 =
     tab-same _ _ 8 0 (λ i _ _. column-is old new i) in
     rw (a, k) at (orders 159 (coefficients old new) u s e (coefficients-length old new) d)

@@ -1,5 +1,5 @@
-// 4.2.10: short term analysis filtering. 001 takes each sample through the eight sections. A section is fed with nothing that comes after
-// it, so here each section takes all 160 samples, and the compiler can do several at once.
+// 4.2.10: short term analysis filtering. 001 takes each sample through the eight sections. A section is fed with
+// nothing that comes after it, so here each section takes all 160 samples, and the compiler can do several at once.
 ghost use Prim.Native.Nat.{_<_};
 ghost use mathlib.Core.Path.{_≡_};
 ghost use mathlib.Core.Bool.{true};
@@ -41,7 +41,7 @@ fn spread(a: i16, b: i16, c: i16, d: i16, rp: &mut [i16])
     constant(d, &mut rp[40..160]);
 }
 
-// Section i's, from the coefficients of the four stretches.
+// Section i's coefficient at each of the 160 samples, from the coefficients of the four stretches.
 fn own(i: usize, a: &[i16; 8], b: &[i16; 8], c: &[i16; 8], d: &[i16; 8], rp: &mut [i16])
     requires { ⌜ (i < 8) × (length (now rp) ≡ 160) ⌝ }
     ensures { λ _. ⌜ now (rp .exit) ≡ own (now (a .entry)) (now (b .entry)) (now (c .entry)) (now (d .entry)) i ⌝ }
@@ -51,7 +51,8 @@ fn own(i: usize, a: &[i16; 8], b: &[i16; 8], c: &[i16; 8], d: &[i16; 8], rp: &mu
 
 // di and sav become those that a section hands on, from its coefficient and its cell at each of the 160 samples.
 fn section(rp: &[i16], prev: &[i16], di: &mut [i16], sav: &mut [i16])
-    requires { ⌜ ((length (now rp) ≡ 160) × (length (now prev) ≡ 160)) × ((length (now di) ≡ 160) × ((length (now sav) ≡ 160) × (every not-least (now rp) ≡ true))) ⌝ }
+    requires { ⌜ ((length (now rp) ≡ 160) × (length (now prev) ≡ 160))
+        × ((length (now di) ≡ 160) × ((length (now sav) ≡ 160) × (every not-least (now rp) ≡ true))) ⌝ }
     ensures di { λ _. ⌜ now (di .exit) ≡ further (now (rp .entry)) (now (prev .entry)) (now (di .entry)) ⌝ }
     ensures sav { λ _. ⌜ now (sav .exit) ≡ saved (now (rp .entry)) (now (prev .entry)) (now (di .entry)) ⌝ }
 {
@@ -83,13 +84,6 @@ fn stage(rp: &[i16], u: i16, p: &mut [i16], di: &mut [i16], q: &mut [i16]) -> i1
     p[160]
 }
 
-// Room for 160 samples.
-fn none() -> [i16; 160]
-    ensures { λ r. ⌜ r ≡ replicate 160 (pos 0) ⌝ }
-{
-    [0; 160]
-}
-
 // sav starts as di does, after room for a cell.
 fn after_cell(s: &[i16]) -> [i16; 161]
     requires { ⌜ length (now s) ≡ 160 ⌝ }
@@ -102,7 +96,8 @@ fn after_cell(s: &[i16]) -> [i16; 161]
     p
 }
 
-// The 160 samples of s become those of d. u[0..7] are the cells; old and new the ratios of the frame before and of this one.
+// The 160 samples of s become those of d. u[0..7] are the cells; old and new the ratios of the frame before and of
+// this one. A turn of the loop is two sections: the first takes sav from p to q, the second back to p.
 pub fn filtered(u: [i16; 8], old: [i16; 8], new: [i16; 8], s: &mut [i16]) -> [i16; 8]
     requires { ⌜ length (now s) ≡ 160 ⌝ }
     ensures u { λ r. ⌜ r ≡ run analysed u (zip (coefficients old new) (now (s .entry))) .0 ⌝ }
@@ -114,9 +109,8 @@ pub fn filtered(u: [i16; 8], old: [i16; 8], new: [i16; 8], s: &mut [i16]) -> [i1
     let fourth = shortterm::coefficients(3, old, new);
     let mut p = after_cell(s);
     let mut q = [0i16; 161];
-    let mut rp = none();
+    let mut rp = [0i16; 160];
     let mut kept = [0i16; 8];
-    // Two sections a turn: sav goes from p to q and back.
     for j in 0..4usize {
         let i = 2 * j;
         let k = i + 1;

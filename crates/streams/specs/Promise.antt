@@ -6,7 +6,7 @@ use mathlib.Core.List.{List}
 use lib.ListN.{length, take}
 use Rattle.streams.specs.declared.Filled.{Filled}
 
--- the room held xs, of which the first so many bytes count, and holds ys; at least so many bytes were wanted
+-- the room held xs, whose first bytes, as many as were there, count; at least so many were wanted; the room holds ys
 pub record Gathered (there least : ℕ) (xs : List ℕ) (r : Filled) (ys : List ℕ) : Type 0 where
   pub room : r .count ≤ length ys
   pub more : there ≤ r .count

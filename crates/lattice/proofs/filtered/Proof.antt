@@ -86,12 +86,11 @@ after-cell-requires c κs = start (c .before) .pre
 
 loop-holds : tie.Need-loop-holds Inv-loop μ-loop
 loop-holds c =
-    let a = c .before in
-    let r = a .before .before in
+    let r = c .before .before in
     let s = start r .args .s .now in
-    let e : drop 1 (a .after-cell .result) ≡ s = ap (drop 1) (a .after-cell .ensures) in (
+    let e : drop 1 (c .after-cell .result) ≡ s = ap (drop 1) (c .after-cell .ensures) in (
       search needs,
-      search needs,
+      refl,
       record {
         di-length = start r .pre;
         p-length = search needs;
@@ -105,7 +104,7 @@ loop-holds c =
 
 module _ (b : tie.At-loop Inv-loop μ-loop) where
   abbrev before-loop : tie.After-coefficients4 Inv-loop μ-loop
-  before-loop = b .before .before .before .before
+  before-loop = b .before .before .before
 
 module _ (t : tie.In-loop Inv-loop μ-loop) where
   abbrev known : tie.After-coefficients4 Inv-loop μ-loop
@@ -267,7 +266,6 @@ filtered-spec =
     (λ c κs. search needs)
     (λ c κs. search needs)
     after-cell-requires
-    (λ c κs. search needs)
     loop-holds
     (λ c. search needs)
     (λ c. search needs)

@@ -59,7 +59,8 @@ returns c =
 
 loop-again : tie.Need-loop-again Inv-loop μ-loop
 loop-again c =
-    let t = c .before .before .before .before .before in
+    let on = c .before in
+    let t = on .before .before .before .before in
     (search needs, search needs, search needs, stands t, λ h. absurd (missing t h))
 
 returns-2 : tie.Need-returns-2 Inv-loop μ-loop
