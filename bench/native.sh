@@ -35,6 +35,8 @@ if [ -f "$made" ] && [ "$(cat "$made.key" 2>/dev/null)" = "$key" ]; then exit 0;
 
 work=$(mktemp -d)
 trap 'rm -rf "$work"' EXIT
+# rt runs a program as nobody, who has to reach it
+chmod 755 "$work"
 
 # links NAME FROM TO: links in TO to all that FROM has, but NAME
 links() {
@@ -66,6 +68,7 @@ for part in rlib stamp; do
     [ ! -d "$root/target/$part" ] || cp -R "$root/target/$part" "$work/repository/target/"
 done
 cd "$work/repository"
+rm -f "target/stamp/$name"
 RATTLE_HOME=$work/kit rt "$how" "$name" >"$work/said" 2>&1 || { tail -n 20 "$work/said" >&2 && exit 1; }
 cd "$work"
 [ -f module.bc ] || fault 'the kit hands its clang no module'
