@@ -63,7 +63,8 @@ module _ (z : List ℤ) (l : length z ≡ 168) (p : every (at-most 2048) z ≡ t
       let x = drop a z at i in
       let y = drop b z at i in
       let f : (c : ℕ) → c + i < 168 → natAbs (drop c z at i) ≤ 2048 =
-      λ c h. leb-true _ 2048 (every-at (at-most 2048) (drop c z) i (pos 0) (every-drop (at-most 2048) c z p) (omega (arith, length-drop c z))) in
+      λ c h. let s = every-drop (at-most 2048) c z p in
+      leb-true _ 2048 (every-at (at-most 2048) (drop c z) i (pos 0) s (omega (arith, length-drop c z))) in
       rw (abs-is (x *ℤ y)) (mul-in 2048 2048 x y (omega (arith, f a u, abs-is x)) (omega (arith, f b v, abs-is y)))
 
   -- the first n and the m after them

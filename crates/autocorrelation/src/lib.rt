@@ -1,5 +1,5 @@
-// 4.2.4: scaling, the nine sums, and the scaling back. The sums never meet their limit (01, sum (b)): they are plain
-// additions.
+// 4.2.4: scaling, the nine sums, and the scaling back. The sums never meet their limit (01, sum (b)): they
+// are plain additions.
 ghost use mathlib.Core.Path.{_≡_};
 ghost use mathlib.Core.Bool.{true};
 ghost use Prim.Native.Nat.{_≤_};
@@ -45,8 +45,9 @@ fn padded(s: &[i16]) -> [i16; 168]
     z
 }
 
-// The sum of the products of each sample and the one k places before it, in five blocks of 32, of which the compiler makes
-// vectors. A product with one of the zeros adds nothing: that this is L_ACF[k] is `upto-all` (specs/Blocks).
+// The sum of the products of each sample and the one k places before it, in five blocks of 32, of which the
+// compiler makes vectors. A product with one of the zeros adds nothing: that this is L_ACF[k] is `upto-all`
+// (specs/Blocks).
 fn at_distance(k: usize, z: &[i16]) -> i32
     requires { ⌜ (length (now z) ≡ 168) × ((every (at-most 2048) (now z) ≡ true) × (k ≤ 8)) ⌝ }
     ensures { λ r. ⌜ r ≡ upto (now (z .entry)) k 160 ⌝ }

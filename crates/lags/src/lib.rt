@@ -17,8 +17,8 @@ ghost use Rattle.arithmetic.specs.Within.{word};
 ghost use Rattle.sums.specs.Room.{at-most};
 ghost use Rattle.lags.specs.Search.{correlated, lasts};
 
-// What the search found: the lag, its sum before the rescaling, and whether any sum was above 0. Without one the lag is only where the
-// search stood.
+// What the search found: the lag, its sum before the rescaling, and whether any sum was above 0. Without one
+// the lag is only where the search stood.
 pub struct Search {
     pub lag: usize,
     pub sum: i32,
@@ -57,8 +57,8 @@ fn weighed(scal: i16, d: &[i16]) -> [i16; 40]
     wt
 }
 
-// Each of a slice is a word, which the search has to know before it adds up what two calls gave. To read them is enough,
-// and nothing is left of it once it is compiled.
+// Each of a slice is a word, which the search has to know before it adds up what two calls gave. To read them
+// is enough, and nothing is left of it once it is compiled.
 fn words(s: &[i16])
     ensures { λ _. ⌜ every word (now (s .entry)) ≡ true ⌝ }
 {
@@ -67,8 +67,8 @@ fn words(s: &[i16])
     }
 }
 
-// The last 8 of the 40 products, at each place of dp that a lag starts from. The compiler makes vectors of 8 products and
-// of 32, and not of 40. That 32 and 8 are the 40 is `lag-split` (specs/Search).
+// The last 8 of the 40 products, at each place of dp that a lag starts from. The compiler makes vectors of 8
+// products and of 32, and not of 40. That 32 and 8 are the 40 is `lag-split` (specs/Search).
 fn lasts(wt: &[i16], dp: &[i16]) -> [i32; 81]
     requires { ⌜ (length (now wt) ≡ 40) × ((length (now dp) ≡ 120) × (every (at-most 512) (now wt) ≡ true)) ⌝ }
     ensures { λ r. ⌜ r ≡ lasts (now (wt .entry)) (now (dp .entry)) ⌝ }

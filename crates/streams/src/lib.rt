@@ -1,4 +1,5 @@
-// Standard input, for the programs, and what is said on standard error. What a read gives and whether a write succeeds no promise can say.
+// Standard input, for the programs, and what is said on standard error. What a read gives and whether a write
+// succeeds no promise can say.
 ghost use mathlib.Core.Path.{_≡_};
 ghost use mathlib.Core.Bool.{not, _&&_};
 ghost use mathlib.Core.List.{_++_};

@@ -1,5 +1,5 @@
-// Over a list: the largest size, the sum of products, the sum of squares. 01's sums (b) to (d) never meet their limit, so
-// these are plain additions, which the compiler turns into vector code.
+// Over a list: the largest size, the sum of products, the sum of squares. 01's sums (b) to (d) never meet
+// their limit, so these are plain additions, which the compiler turns into vector code.
 ghost use mathlib.Core.Path.{_≡_};
 ghost use mathlib.Core.Bool.{cond};
 ghost use Prim.Native.Nat.{_*_, _-_, _^_, _<_, _≤_};

@@ -1,6 +1,7 @@
-// 4.3.4 to 4.3.7: the synthesis lattice and de-emphasis, sample by sample in one loop; doubling and truncation in another.
-// The lattice is a chain of dependences and decides the decoder's speed. So a sample is first done with plain sums, which
-// nearly always stay words; at the first that does not it is done again with 001's limits.
+// 4.3.4 to 4.3.7: the synthesis lattice and de-emphasis, sample by sample in one loop; doubling and
+// truncation in another. The lattice is a chain of dependences and decides the decoder's speed. So a sample
+// is first done with plain sums, which nearly always stay words; at the first that does not it is done again
+// with 001's limits.
 ghost use mathlib.Core.Path.{_≡_};
 ghost use mathlib.Core.Bool.{true};
 ghost use Prim.Native.Nat.{_+_, _≤_};
@@ -138,8 +139,8 @@ fn limited(r: Line, v: Line, wt: i32) -> Line
     }
 }
 
-// ---- The fast way. Its cells and sri are carried plus 32768, so that one test says of a sum that it is a word (`lifted`).
-// What such a number stands for is `low` of it (specs/Biased).
+// ---- The fast way. Its cells and sri are carried plus 32768, so that one test says of a sum that it is a
+// word (`lifted`). What such a number stands for is `low` of it (specs/Biased).
 
 fn is_lifted(z: i32) -> bool
     ensures { λ r. ⌜ r ≡ lifted z ⌝ }
@@ -227,8 +228,8 @@ fn risen(rrp: i32, c: i32, v: i32, sri: i32) -> i32
     v + biased(rrp, c, sri)
 }
 
-// A section by plain sums: sri after it, the cell above its own, and whether every sum so far is a word. Then no limit was
-// met, and it is the section as 001 has it (`Passed`).
+// A section by plain sums: sri after it, the cell above its own, and whether every sum so far is a word. Then
+// no limit was met, and it is the section as 001 has it (`Passed`).
 struct Attempt {
     out: i32,
     above: i32,
@@ -367,8 +368,9 @@ pub struct Cells {
     pub msr: i16,
 }
 
-// A stretch of samples that have the same coefficients. No sample waits for the one before to be doubled, so that is a loop
-// of its own, of which the compiler makes vectors (`voiced-is`, specs/Speech: the doubling can be left for last).
+// A stretch of samples that have the same coefficients. No sample waits for the one before to be doubled, so
+// that is a loop of its own, of which the compiler makes vectors (`voiced-is`, specs/Speech: the doubling can
+// be left for last).
 pub fn stretch(s: Cells, rrp: [i16; 8], wt: &[i16], srop: &mut [i16]) -> Cells
     requires { ⌜ (length (now srop) ≡ length (now wt)) × (every not-least rrp ≡ true) ⌝ }
     ensures v { λ r. ⌜ r .v ≡ spoken (s .v) (s .msr) rrp (now (wt .entry)) .0 .0 ⌝ }

@@ -1,4 +1,4 @@
--- A stretch of samples: the first loop carries the cells and msr from sample to sample, the second doubles and truncates what the first left.
+-- A stretch of samples: the first loop carries the cells and msr from sample to sample, the second doubles and truncates.
 use Prim.Native.Nat.{_+_, _-_, _≤_}
 use mathlib.Core.Path.{_≡_, refl, sym, ap, _∙_}
 use mathlib.Core.Bool.{true}
@@ -90,7 +90,8 @@ next : (c : tie.In-loop Inv-loop μ-loop Inv-loop2 μ-loop2) → Fits w64 (c .be
 next c = search needs
 
 -- the sample that is read
-x-fits : (c : tie.After-lattice-arg Inv-loop μ-loop Inv-loop2 μ-loop2) → let t = c .before .before in SFits w16 (start (t .before) .args .wt .now at t .loop .k)
+x-fits : (c : tie.After-lattice-arg Inv-loop μ-loop Inv-loop2 μ-loop2)
+    → let t = c .before .before in SFits w16 (start (t .before) .args .wt .now at t .loop .k)
 x-fits c = sfits-of (c .lattice-arg .given)
 
 cast-lattice : tie.Need-cast-lattice Inv-loop μ-loop Inv-loop2 μ-loop2
