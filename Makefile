@@ -30,7 +30,7 @@ test:
 
 outside: ready
 	cargo test --quiet --offline --manifest-path outside/second/Cargo.toml --target-dir build/tests
-	python3 outside/operations.py --compare crates/operations/stdout
+	python3 outside/operations.py --compare crates/test_operations/stdout
 	python3 outside/operations.py --libgsm build/libgsm.so
 	python3 outside/trials.py outside/vectors --compare
 	python3 outside/layout.py

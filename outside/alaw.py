@@ -11,8 +11,8 @@ from differences import CODEWORDS, OCTETS, Difference, same_bytes, same_lines, s
 from given import contents
 
 # what the gate holds our program operations to; its rows of expand and compress are made by rule
-STORED = os.path.join(peers.HERE, '..', 'crates', 'operations', 'stdout')
-STORED_NAME = 'crates/operations/stdout'
+STORED = os.path.join(peers.HERE, '..', 'crates', 'test_operations', 'stdout')
+STORED_NAME = 'crates/test_operations/stdout'
 
 
 # ---- the rule

@@ -1,8 +1,8 @@
 #!/usr/bin/env python3
-"""The operations of clause 4.1 of ETS 300 961, and A-law by the rule of W-204, computed on plain integers: what the program `operations`
+"""The operations of clause 4.1 of ETS 300 961, and A-law by the rule of W-204, computed on plain integers: what the program `test_operations`
 must print.
 
-    python3 outside/operations.py                     writes the text; crates/operations/stdout is made so
+    python3 outside/operations.py                     writes the text; crates/test_operations/stdout is made so
     python3 outside/operations.py --compare FILE      compares it with FILE and says where the first difference is
     python3 outside/operations.py --libgsm PATH       compares each value of 4.1 with libgsm's own functions; PATH is libgsm.so, or
                                                       `auto`. libgsm has no A-law

@@ -1,7 +1,7 @@
 #!/usr/bin/env python3
-"""Frames as theorems: what crates/trials states of encode and decode, each from the state before the frame.
+"""Frames as theorems: what crates/standard_trials states of encode and decode, each from the state before the frame.
 
-    python3 outside/trials.py VECTORS                 writes the files of crates/trials/specs
+    python3 outside/trials.py VECTORS                 writes the files of crates/standard_trials/specs
     python3 outside/trials.py VECTORS --compare       compares them with what it would write, but for the layout of the lines
 
 Samples and codewords are those of the vectors; the states between frames, the endings and the marks are those of the second codec, which
@@ -21,7 +21,7 @@ from given import contents, frames
 from signals import swell
 from states import CODEWORDS, DECODE, ENCODE, SAMPLES, STATE, Coder, Decoder, random_coder, random_decoder, words
 
-SPECS = os.path.join(os.path.dirname(__file__), '..', 'crates', 'trials', 'specs')
+SPECS = os.path.join(os.path.dirname(__file__), '..', 'crates', 'standard_trials', 'specs')
 
 
 def any_frame(seed):
@@ -230,7 +230,7 @@ def written(path, text):
 def compared(path, text):
     with open(path, encoding='utf-8') as file:
         if file.read().split() != text.split():
-            raise Difference(f'crates/trials/specs/{os.path.basename(path)} is not what trials.py writes')
+            raise Difference(f'crates/standard_trials/specs/{os.path.basename(path)} is not what trials.py writes')
 
 
 def main():
@@ -247,7 +247,7 @@ def main():
         print(fault)
         return 1
     if arguments.compare:
-        print(f'crates/trials: {len(ENCODED) + len(MADE)} frames encoded, {len(DECODED) + len(MADE_DECODED)} decoded, {len(PACKED)} packed and unpacked, '
+        print(f'crates/standard_trials: {len(ENCODED) + len(MADE)} frames encoded, {len(DECODED) + len(MADE_DECODED)} decoded, {len(PACKED)} packed and unpacked, '
               f'{len(LISTED)} inputs listed, as the vectors and the second codec have them')
     return 0
 

@@ -9,7 +9,7 @@ use native.Mathlib.Omega.{arith}
 use lib.IntN.{ℤ}
 use lib.Dec.{ltb}
 use lib.ListN.{length, length-map, replicate}
-use Rattle.lists.specs.Every.{every}
+use Rattle.math_lists.specs.Every.{every}
 use Rattle.standard.specs.Lpc as lpc
 use Rattle.standard.specs.House as house
 use Rattle.standard.specs.House.{encode-refusal}
@@ -17,8 +17,8 @@ use Rattle.standard.specs.Coder.{Subcoded, coded}
 use Rattle.encoder.specs.declared.Encoder.{Encoder}
 use Rattle.encoder.specs.Promise.{coder}
 use Rattle.standard.specs.Answers as answers
-use Rattle.lengths.specs.Calls.{encode-marks-length}
-use Rattle.refusals.specs.Calls.{encode-number, encode-done, encode-refused}
+use Rattle.law_lengths.specs.Calls.{encode-marks-length}
+use Rattle.law_refusals.specs.Calls.{encode-number, encode-done, encode-refused}
 use Rattle.boundary.specs.declared.EncodeAnswer.{EncodeAnswer}
 use Rattle.boundary.specs.Promise.{ending-number, mark-number, encode-answer, Encodes}
 

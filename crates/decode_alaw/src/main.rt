@@ -4,7 +4,7 @@ ghost use mathlib.Core.Path.{_≡_};
 ghost use Prim.Native.Nat.{_*_, _≤_, _<_};
 ghost use lib.ListN.{length};
 ghost use Rattle.decoder.specs.Promise.{memory};
-ghost use Rattle.streams.specs.Frames.{Through};
+ghost use Rattle.io_streams.specs.Frames.{Through};
 ghost use Rattle.decode_alaw.specs.Frame.{decoded};
 
 // The decoder after a turn, how many bytes of a frame that is not whole yet are kept, and whether there may be more.
@@ -21,10 +21,10 @@ fn frame(m: Decoder, bytes: &[u8], out: &mut [u8]) -> Decoder
     ensures octets { λ _. ⌜ now (out .exit) ≡ decoded (memory m) (now (bytes .entry)) .1 ⌝ }
 {
     let mut codewords = [0; 76];
-    files::words(bytes, &mut codewords);
+    io_files::words(bytes, &mut codewords);
     let mut octets = [0; 160];
     let heard = m.decode_alaw(&codewords, &mut octets);
-    text::text(&octets, 0, out);
+    list_text::text(&octets, 0, out);
     heard.state
 }
 
@@ -48,8 +48,8 @@ fn turn(m: Decoder, there: usize, room: &mut [u8], out: &mut [u8]) -> After
     requires { ⌜ (there < 152) × (length (now room) ≡ 9728) × (length (now out) ≡ 10240) ⌝ }
     ensures { λ r. ⌜ r .there < 152 ⌝ }
 {
-    let got = streams::gather(there, 152, room);
-    if !streams::whole(got, 152) {
+    let got = io_streams::gather(there, 152, room);
+    if !io_streams::whole(got, 152) {
         return After {
             state: m,
             there: 0,
@@ -58,12 +58,12 @@ fn turn(m: Decoder, there: usize, room: &mut [u8], out: &mut [u8]) -> After
     }
     let frames = got.count / 152;
     let next = code(m, frames, room, out);
-    let rest = streams::keep(152 * frames, got.count, room);
+    let rest = io_streams::keep(152 * frames, got.count, room);
     let end = 160 * frames;
     After {
         state: next,
         there: rest,
-        more: streams::written(io::write_all(1, &out[0..end])),
+        more: io_streams::written(io::write_all(1, &out[0..end])),
     }
 }
 

@@ -7,11 +7,11 @@ use lib.ListN.{length}
 use Rattle.standard.specs.Frame.{sample, valid, received}
 use Rattle.standard.specs.House.{home-decoder, sound-decoder, decode-refusal}
 use Rattle.standard.specs.Answers as answers
-use Rattle.refusals.specs.Calls.{decode-number, decode-done}
-use Rattle.lengths.specs.Frames.{home-decoder-sound}
-use Rattle.fields.specs.Valid.{decode-valid}
-use Rattle.fields.specs.Samples.{decoded-samples}
-use Rattle.soundness.specs.States.{decode-sound}
+use Rattle.law_refusals.specs.Calls.{decode-number, decode-done}
+use Rattle.law_lengths.specs.Frames.{home-decoder-sound}
+use Rattle.law_fields.specs.Valid.{decode-valid}
+use Rattle.law_fields.specs.Samples.{decoded-samples}
+use Rattle.law_soundness.specs.States.{decode-sound}
 use Rattle.decoder.specs.declared.Decoder.{Decoder}
 use Rattle.decoder.specs.declared.Decoded.{Decoded}
 use Rattle.decoder.specs.Promise.{memory, Decodes, same-state, one-outcome}

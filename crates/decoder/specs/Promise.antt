@@ -12,7 +12,7 @@ use Rattle.standard.specs.Alaw.{alaw-octets}
 use Rattle.standard.specs.House.{decode-refusal, decode-alaw-refusal}
 use Rattle.standard.specs.Answers as answers
 use Rattle.standard.specs.Answers.{answer}
-use Rattle.refusals.specs.Calls.{decode-done, decode-refused, decode-alaw-like, decode-alaw-as, decode-alaw-done, decode-alaw-refused}
+use Rattle.law_refusals.specs.Calls.{decode-done, decode-refused, decode-alaw-like, decode-alaw-as, decode-alaw-done, decode-alaw-refused}
 
 -- what the state stands for
 unfoldable pub memory : Decoder → standard.Decoder

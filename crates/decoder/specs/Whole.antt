@@ -9,9 +9,9 @@ use lib.Seq.{take-take, take-at}
 use Rattle.standard.specs.Frame.{received}
 use Rattle.standard.specs.ShortTerm.{ratios}
 use Rattle.standard.specs.Decoder as standard
-use Rattle.synthesis.specs.Speech.{spoken-is}
-use Rattle.speech.specs.Four.{frame-spoken}
-use Rattle.residual.specs.Received.{ratio-words, received-is, residual}
+use Rattle.short_synthesis.specs.Speech.{spoken-is}
+use Rattle.frame_speech.specs.Four.{frame-spoken}
+use Rattle.frame_received.specs.Received.{ratio-words, received-is, residual}
 
 -- the residual, the ratios, then the samples in one pass
 pub decoded-is : (m : standard.Decoder) (c : List ℤ)

@@ -1,6 +1,6 @@
 // The decoder: its state, home, and decode, which is the whole of 4.3 behind the refusals of 01; decode_alaw, which leaves octets. What both
 // promise is in specs/Promise.antt.
-use synthesis::Cells;
+use short_synthesis::Cells;
 ghost use mathlib.Core.Path.{_≡_};
 ghost use mathlib.Core.Bool.{true};
 ghost use lib.ListN.{length};
@@ -37,10 +37,10 @@ fn frame(m: Decoder, codewords: &[i16], samples: &mut [i16]) -> Decoder
     let before = m.drp;
     let old = m.larpp;
     let v = m.v;
-    let mut drp = history::remembered(before);
-    let nrp = residual::decoded(m.nrp, codewords, &mut drp[0..280]);
-    let larpp = shortterm::ratios(codewords::larc_valid(&codewords[0..8]));
-    let cells = speech::frame(
+    let mut drp = long_history::remembered(before);
+    let nrp = frame_received::decoded(m.nrp, codewords, &mut drp[0..280]);
+    let larpp = short_ratios::ratios(frame_codewords::larc_valid(&codewords[0..8]));
+    let cells = frame_speech::frame(
         Cells { v: v, msr: m.msr },
         old,
         larpp,
@@ -49,7 +49,7 @@ fn frame(m: Decoder, codewords: &[i16], samples: &mut [i16]) -> Decoder
     );
     let after = cells.v;
     Decoder {
-        drp: history::last(&drp[160..280]),
+        drp: long_history::last(&drp[160..280]),
         nrp: nrp,
         larpp: larpp,
         v: after,
@@ -118,7 +118,7 @@ impl Decoder {
         let mut samples = [0; 160];
         let a = self.decode(codewords, &mut samples);
         if a.number == 0 {
-            alaw::octets(&samples, octets);
+            pcm_alaw::octets(&samples, octets);
         }
         a
     }

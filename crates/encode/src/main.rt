@@ -4,7 +4,7 @@ ghost use mathlib.Core.Path.{_≡_};
 ghost use Prim.Native.Nat.{_*_, _≤_, _<_};
 ghost use lib.ListN.{length};
 ghost use Rattle.encoder.specs.Promise.{coder};
-ghost use Rattle.streams.specs.Frames.{Through};
+ghost use Rattle.io_streams.specs.Frames.{Through};
 ghost use Rattle.encode.specs.Frame.{encoded};
 
 // The encoder after a turn, how many bytes of a frame that is not whole yet are kept, and whether there may be more.
@@ -21,10 +21,10 @@ fn frame(e: Encoder, bytes: &[u8], out: &mut [u8]) -> Encoder
     ensures bytes { λ _. ⌜ now (out .exit) ≡ encoded (coder e) (now (bytes .entry)) .1 ⌝ }
 {
     let mut samples = [0; 160];
-    files::words(bytes, &mut samples);
+    io_files::words(bytes, &mut samples);
     let mut codewords = [0; 76];
     let coded = e.encode(&samples, &mut codewords);
-    files::bytes(&codewords, out);
+    io_files::bytes(&codewords, out);
     coded.state
 }
 
@@ -48,8 +48,8 @@ fn turn(e: Encoder, there: usize, room: &mut [u8], out: &mut [u8]) -> After
     requires { ⌜ (there < 320) × (length (now room) ≡ 20480) × (length (now out) ≡ 9728) ⌝ }
     ensures { λ r. ⌜ r .there < 320 ⌝ }
 {
-    let got = streams::gather(there, 320, room);
-    if !streams::whole(got, 320) {
+    let got = io_streams::gather(there, 320, room);
+    if !io_streams::whole(got, 320) {
         return After {
             state: e,
             there: 0,
@@ -58,12 +58,12 @@ fn turn(e: Encoder, there: usize, room: &mut [u8], out: &mut [u8]) -> After
     }
     let frames = got.count / 320;
     let next = code(e, frames, room, out);
-    let rest = streams::keep(320 * frames, got.count, room);
+    let rest = io_streams::keep(320 * frames, got.count, room);
     let end = 152 * frames;
     After {
         state: next,
         there: rest,
-        more: streams::written(io::write_all(1, &out[0..end])),
+        more: io_streams::written(io::write_all(1, &out[0..end])),
     }
 }
 

@@ -4,7 +4,7 @@ ghost use mathlib.Core.Path.{_≡_};
 ghost use Prim.Native.Nat.{_*_, _≤_, _<_};
 ghost use lib.ListN.{length};
 ghost use Rattle.encoder.specs.Promise.{coder};
-ghost use Rattle.streams.specs.Frames.{Through};
+ghost use Rattle.io_streams.specs.Frames.{Through};
 ghost use Rattle.encode_alaw.specs.Frame.{encoded};
 
 // The encoder after a turn, how many octets of a frame that is not whole yet are kept, and whether there may be more.
@@ -22,7 +22,7 @@ fn frame(e: Encoder, octets: &[u8], out: &mut [u8]) -> Encoder
 {
     let mut codewords = [0; 76];
     let coded = e.encode_alaw(octets, &mut codewords);
-    files::bytes(&codewords, out);
+    io_files::bytes(&codewords, out);
     coded.state
 }
 
@@ -46,8 +46,8 @@ fn turn(e: Encoder, there: usize, room: &mut [u8], out: &mut [u8]) -> After
     requires { ⌜ (there < 160) × (length (now room) ≡ 10240) × (length (now out) ≡ 9728) ⌝ }
     ensures { λ r. ⌜ r .there < 160 ⌝ }
 {
-    let got = streams::gather(there, 160, room);
-    if !streams::whole(got, 160) {
+    let got = io_streams::gather(there, 160, room);
+    if !io_streams::whole(got, 160) {
         return After {
             state: e,
             there: 0,
@@ -56,12 +56,12 @@ fn turn(e: Encoder, there: usize, room: &mut [u8], out: &mut [u8]) -> After
     }
     let frames = got.count / 160;
     let next = code(e, frames, room, out);
-    let rest = streams::keep(160 * frames, got.count, room);
+    let rest = io_streams::keep(160 * frames, got.count, room);
     let end = 152 * frames;
     After {
         state: next,
         there: rest,
-        more: streams::written(io::write_all(1, &out[0..end])),
+        more: io_streams::written(io::write_all(1, &out[0..end])),
     }
 }
 

@@ -4,16 +4,16 @@ use mathlib.Core.Bool.{true}
 use mathlib.Core.List.{List, map}
 use lib.IntN.{ℤ}
 use lib.ListN.{length, length-map}
-use Rattle.lists.specs.Every.{every}
+use Rattle.math_lists.specs.Every.{every}
 use Rattle.standard.specs.Frame.{sample}
 use Rattle.standard.specs.Coder.{Coder, coded}
 use Rattle.standard.specs.House.{home-coder, sound-coder, encode-refusal, fits}
 use Rattle.standard.specs.Answers as answers
-use Rattle.arithmetic.specs.Within.{word}
-use Rattle.refusals.specs.Calls.{encode-number, encode-done}
-use Rattle.fields.specs.Fields.{coded-fits}
-use Rattle.fields.specs.Samples.{coded-samples}
-use Rattle.soundness.specs.States.{home-coder-sound, encode-sound}
+use Rattle.law_arithmetic.specs.Within.{word}
+use Rattle.law_refusals.specs.Calls.{encode-number, encode-done}
+use Rattle.law_fields.specs.Fields.{coded-fits}
+use Rattle.law_fields.specs.Samples.{coded-samples}
+use Rattle.law_soundness.specs.States.{home-coder-sound, encode-sound}
 use Rattle.encoder.specs.declared.Encoder.{Encoder}
 use Rattle.encoder.specs.declared.Encoded.{Encoded}
 use Rattle.encoder.specs.Promise.{coder, Encodes, same-state, one-outcome}

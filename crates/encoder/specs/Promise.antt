@@ -18,7 +18,7 @@ use Rattle.standard.specs.Coder.{Coder, coded, frame}
 use Rattle.standard.specs.House as house
 use Rattle.standard.specs.House.{encode-refusal}
 use Rattle.standard.specs.Answers as answers
-use Rattle.refusals.specs.Calls.{encode-refused, encode-done}
+use Rattle.law_refusals.specs.Calls.{encode-refused, encode-done}
 
 -- ---- what the types stand for
 

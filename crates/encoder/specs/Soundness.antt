@@ -6,8 +6,8 @@ use mathlib.Core.Logic.{⊎-elim}
 use native.Mathlib.Omega.{arith}
 use lib.IntN.{ℤ, pos, _+ℤ_, _-ℤ_}
 use lib.Signed.{leZ}
-use Rattle.integers.specs.Halves.{P, N, either, le-yes, le-no, yes-le, no-le}
-use Rattle.integers.specs.Sums.{add-is, minus-is, neg-is}
+use Rattle.math_integers.specs.Halves.{P, N, either, le-yes, le-no, yes-le, no-le}
+use Rattle.math_integers.specs.Sums.{add-is, minus-is, neg-is}
 use Rattle.standard.specs.Arithmetic.{within}
 use Rattle.standard.specs.Tables.{neg}
 

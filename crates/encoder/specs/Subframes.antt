@@ -7,16 +7,16 @@ use native.Mathlib.Omega.{arith}
 use lib.IntN.{ℤ, natAbs}
 use lib.ListN.{length, take, drop, replicate, length-append, length-take, length-drop, take-append-drop}
 use lib.Seq.{drop-drop}
-use Rattle.lists.specs.Scan.{run}
-use Rattle.lists.specs.Cut.{cut}
-use Rattle.lists.specs.Parts.{put, five}
+use Rattle.math_lists.specs.Scan.{run}
+use Rattle.math_lists.specs.Cut.{cut}
+use Rattle.math_lists.specs.Parts.{put, five}
 use Rattle.standard.specs.Frame.{sub-words}
 use Rattle.standard.specs.Rpe.{updated}
 use Rattle.standard.specs.Coder.{Subcoded, sub-coded, sub-step}
 use Rattle.standard.specs.House.{Mark, mark}
-use Rattle.lengths.specs.Subframes.{sub-coded-lag, sub-coded-pulses, reconstructed-length}
-use Rattle.history.specs.Window.{window-updated, Stands, stands-lent, stands-next}
-use Rattle.subframe.specs.Whole.{added}
+use Rattle.law_lengths.specs.Subframes.{sub-coded-lag, sub-coded-pulses, reconstructed-length}
+use Rattle.long_history.specs.Window.{window-updated, Stands, stands-lent, stands-next}
+use Rattle.frame_subframe.specs.Whole.{added}
 
 -- the 40 samples of d that sub-frame n, from 0 to 3, reads
 abbrev pub own : ℕ → List ℤ → List ℤ

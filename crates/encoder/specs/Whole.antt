@@ -4,8 +4,8 @@ use mathlib.Core.Option.{Option, some}
 use mathlib.Core.List.{List, [], _++_, map, flatten}
 use lib.IntN.{ℤ}
 use lib.ListN.{replicate}
-use Rattle.lists.specs.Scan.{run}
-use Rattle.lists.specs.Cut.{cut}
+use Rattle.math_lists.specs.Scan.{run}
+use Rattle.math_lists.specs.Cut.{cut}
 use Rattle.standard.specs.Frame.{words}
 use Rattle.standard.specs.Lpc.{Ending}
 use Rattle.standard.specs.Coder.{Coder, analysis, sub-step, coded, frame}

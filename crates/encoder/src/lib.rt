@@ -1,7 +1,7 @@
 // The encoder: its state, home, and encode, which is the whole of 4.2 behind the refusals of 01; encode_alaw, which takes octets. What both
 // promise is in specs/Promise.antt.
-use analysis::Filters;
-use reflection::Ending as Ended;
+use frame_analysis::Filters;
+use lpc_reflection::Ending as Ended;
 ghost use mathlib.Core.Path.{_≡_};
 ghost use mathlib.Core.Bool.{true, cond};
 ghost use mathlib.Core.Option.{some};
@@ -14,10 +14,10 @@ ghost use Rattle.standard.specs.Frame.{sub-words, words};
 ghost use Rattle.standard.specs.Alaw.{alaw-samples};
 ghost use Rattle.standard.specs.Coder as standard;
 ghost use Rattle.standard.specs.House as house;
-ghost use Rattle.reflection.specs.Promise.{ended};
-ghost use Rattle.subframe.specs.Whole.{added};
+ghost use Rattle.lpc_reflection.specs.Promise.{ended};
+ghost use Rattle.frame_subframe.specs.Whole.{added};
 ghost use Rattle.encoder.specs.Promise.{coder, ending, mark, marks, Encodes, refused};
-ghost use Rattle.lists.specs.Parts.{put};
+ghost use Rattle.math_lists.specs.Parts.{put};
 ghost use Rattle.encoder.specs.Subframes.{own, before, four-added, four-words, four-marks};
 ghost use Rattle.encoder.specs.Whole.{coded-marks};
 
@@ -112,7 +112,7 @@ fn sub_frame(n: usize, d: &[i16], dp: &mut [i16], c: &mut [i16]) -> Mark
     ensures history { λ r. ⌜ now (dp .exit) ≡ put (40 * n) 160 (now (dp .entry)) (before n (now (dp .entry)) ++ added (before n (now (dp .entry))) (own n (now (d .entry)))) ⌝ }
 {
     let a = 40 * n;
-    let search = subframe::sub_coded(&d[a..a + 40], &mut dp[a..a + 160], c);
+    let search = frame_subframe::sub_coded(&d[a..a + 40], &mut dp[a..a + 160], c);
     marked(search.positive)
 }
 
@@ -164,7 +164,7 @@ fn frame(e: Encoder, samples: &[i16], codewords: &mut [i16]) -> Coded
     let u = e.u;
     let before = e.dp;
     let mut d = room();
-    let a = analysis::frame(
+    let a = frame_analysis::frame(
         Filters {
             z1: e.z1,
             l_z2: e.l_z2,
@@ -179,7 +179,7 @@ fn frame(e: Encoder, samples: &[i16], codewords: &mut [i16]) -> Coded
     let larc = a.larc;
     let how = a.ending;
     ratios(larc, &mut codewords[0..8]);
-    let mut dp = history::remembered(before);
+    let mut dp = long_history::remembered(before);
     let marks = sub_frames(&d[0..160], &mut dp[0..280], codewords);
     let new = next.larpp;
     let after = next.u;
@@ -190,7 +190,7 @@ fn frame(e: Encoder, samples: &[i16], codewords: &mut [i16]) -> Coded
             mp: next.mp,
             larpp: new,
             u: after,
-            dp: history::last(&dp[160..280]),
+            dp: long_history::last(&dp[160..280]),
         },
         ending: answered(how),
         marks: marks,
@@ -262,7 +262,7 @@ impl Encoder {
             return refuse(1, self);
         }
         let mut samples = room();
-        alaw::samples(octets, &mut samples);
+        pcm_alaw::samples(octets, &mut samples);
         self.encode(&samples, codewords)
     }
 }

@@ -11,22 +11,22 @@ fn expand(octets: &[u8], samples: &mut [i16], out: &mut [u8])
     requires { ⌜ (length (now samples) ≡ length (now octets)) × (length (now out) ≡ 2 * length (now samples)) ⌝ }
     ensures { λ _. ⌜ now (out .exit) ≡ file-bytes (alaw-samples (now (octets .entry))) ⌝ }
 {
-    alaw::samples(octets, samples);
-    files::bytes(samples, out);
+    pcm_alaw::samples(octets, samples);
+    io_files::bytes(samples, out);
 }
 
 // What has come is expanded and written; whether there may be more.
 fn turn(octets: &mut [u8], samples: &mut [i16], out: &mut [u8]) -> bool
     requires { ⌜ (length (now octets) ≡ 10240) × (length (now samples) ≡ 10240) × (length (now out) ≡ 20480) ⌝ }
 {
-    let got = streams::gather(0, 1, octets);
-    if !streams::whole(got, 1) {
+    let got = io_streams::gather(0, 1, octets);
+    if !io_streams::whole(got, 1) {
         return false;
     }
     let count = got.count;
     let end = 2 * count;
     expand(&octets[0..count], &mut samples[0..count], &mut out[0..end]);
-    streams::written(io::write_all(1, &out[0..end]))
+    io_streams::written(io::write_all(1, &out[0..end]))
 }
 
 // 160 turns, each of at least an octet; whether there may be more.

@@ -1,11 +1,11 @@
 // 01's lister: samples from standard input, the lines of their frames to standard output.
-use listing::Lister;
+use list_frames::Lister;
 ghost use mathlib.Core.Path.{_≡_};
 ghost use Prim.Native.Nat.{_+_, _-_, _*_, _≤_};
 ghost use lib.ListN.{length};
-ghost use Rattle.text.specs.Written.{Puts};
-ghost use Rattle.listing.specs.Promise.{state, listed};
-ghost use Rattle.streams.specs.Frames.{Through};
+ghost use Rattle.list_text.specs.Written.{Puts};
+ghost use Rattle.list_frames.specs.Promise.{state, listed};
+ghost use Rattle.io_streams.specs.Frames.{Through};
 
 // The lister after frames, and where their text ends.
 struct Text {
@@ -24,7 +24,7 @@ struct After {
 fn print(text: [u8; 1024], length: usize) -> bool
     requires { ⌜ length ≤ 1024 ⌝ }
 {
-    streams::written(io::write_all(1, &text[..length]))
+    io_streams::written(io::write_all(1, &text[..length]))
 }
 
 // The E line, after so many bytes that are not listed.
@@ -45,14 +45,14 @@ fn frame(l: Lister, bytes: &[u8], at: usize, out: &mut [u8]) -> Text
     ensures room { λ r. ⌜ r .end ≤ at + 1024 ⌝ }
 {
     let mut own = [0; 320];
-    text::text(bytes, 0, &mut own);
+    list_text::text(bytes, 0, &mut own);
     let mut lines = [0; 1024];
     let f = l.listed(&own, &mut lines);
     let next = f.state;
     let length = f.length;
     Text {
         state: next,
-        end: text::text(&lines[0..length], at, out),
+        end: list_text::text(&lines[0..length], at, out),
     }
 }
 
@@ -93,34 +93,34 @@ fn turn(l: Lister, there: usize, room: &mut [u8], out: &mut [u8]) -> After
     requires { ⌜ (there ≤ 20480) × (length (now room) ≡ 20480) × (length (now out) ≡ 65536) ⌝ }
     ensures { λ r. ⌜ r .there ≤ 20480 ⌝ }
 {
-    let got = streams::gather(there, 320, room);
+    let got = io_streams::gather(there, 320, room);
     let stopped = After {
         state: l,
         there: 0,
         more: false,
     };
-    if !streams::readable(got) {
+    if !io_streams::readable(got) {
         return stopped;
     }
-    let frames = streams::frames(got.count, 320, left(l.frames));
+    let frames = io_streams::frames(got.count, 320, left(l.frames));
     if frames == 0 {
         end(l, got.count);
         return stopped;
     }
     let t = list(l, frames, room, out);
-    let rest = streams::keep(320 * frames, got.count, room);
+    let rest = io_streams::keep(320 * frames, got.count, room);
     let next = t.state;
     let length = t.end;
     After {
         state: next,
         there: rest,
-        more: streams::written(io::write_all(1, &out[0..length])),
+        more: io_streams::written(io::write_all(1, &out[0..length])),
     }
 }
 
 fn main() {
     let mut text = [0; 1024];
-    let length = lines::header(&mut text);
+    let length = list_lines::header(&mut text);
     if !print(text, length) {
         return;
     }

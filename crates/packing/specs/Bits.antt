@@ -9,7 +9,7 @@ use lib.Dec.{ltb}
 use lib.ListN.{length, replicate}
 use lib.Pow.{pow-add, pow-pos, pow-mono}
 use borrow.Author.Tests.{ltb-true, lt-ltb}
-use Rattle.lists.specs.Every.{every}
+use Rattle.math_lists.specs.Every.{every}
 use Rattle.standard.specs.Packed.{bits, value}
 
 -- below 2

@@ -6,11 +6,11 @@ use Prim.Native.Nat.{ℕ}
 use lib.Dec.{ltb}
 use lib.IntN.{ℤ}
 use lib.ListN.{length}
-use Rattle.lists.specs.Every.{every}
+use Rattle.math_lists.specs.Every.{every}
 use Rattle.standard.specs.Packed.{packed, unpacked}
 use Rattle.standard.specs.House.{pack-refusal, unpack-refusal}
 use Rattle.standard.specs.Answers.{pack, unpack}
-use Rattle.refusals.specs.Calls.{pack-exactly, pack-number, pack-done, unpack-exactly, unpack-number, unpack-done}
+use Rattle.law_refusals.specs.Calls.{pack-exactly, pack-number, pack-done, unpack-exactly, unpack-number, unpack-done}
 use Rattle.packing.specs.RoundTrip.{packed-length, packed-spare, unpack-packed, unpacked-length, unpacked-fits, pack-unpacked}
 use Rattle.packing.specs.Promise.{Packs, Unpacks}
 

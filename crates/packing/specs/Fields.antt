@@ -6,8 +6,8 @@ use Prim.Native.Nat.{ℕ, _≤_}
 use native.Mathlib.Nat.{le-of-eq}
 use native.Mathlib.Omega.{arith}
 use lib.ListN.{length, drop, length-map, drop-of-length-le}
-use Rattle.lists.specs.Every.{every, every-flatten, every-cut}
-use Rattle.lists.specs.Cut.{sum, cut, cut-count, cut-lengths, cut-rest, cut-joined, flatten-length}
+use Rattle.math_lists.specs.Every.{every, every-flatten, every-cut}
+use Rattle.math_lists.specs.Cut.{sum, cut, cut-count, cut-lengths, cut-rest, cut-joined, flatten-length}
 use Rattle.packing.specs.Bits.{is-bit, are-bits}
 
 -- a way to write things of one kind in w bits and to read those back that fit

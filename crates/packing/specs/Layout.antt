@@ -6,8 +6,8 @@ use Prim.Native.Nat.{ℕ, _+_}
 use native.Mathlib.Omega.{arith}
 use lib.ListN.{length, take, drop, length-append, length-drop, take-append-drop}
 use lib.Seq.{take-append-seam, drop-append-seam, drop-at}
-use Rattle.lists.specs.Every.{every-append, every-drop}
-use Rattle.lists.specs.Cut.{sum}
+use Rattle.math_lists.specs.Every.{every-append, every-drop}
+use Rattle.math_lists.specs.Cut.{sum}
 use Rattle.packing.specs.Bits.{is-bit, are-bits}
 use Rattle.packing.specs.Fields.{Code, joined, parted, all-fit, joined-length, joined-bits}
 use Rattle.packing.specs.Fields.{parted-joined, parted-whole, parted-fit, joined-parted, joined-whole}

@@ -5,7 +5,7 @@ use mathlib.Core.List.{List}
 use lib.IntN.{ℤ}
 use Rattle.standard.specs.House.{pack-refusal, unpack-refusal}
 use Rattle.standard.specs.Answers as answers
-use Rattle.refusals.specs.Calls.{pack-refused, unpack-refused}
+use Rattle.law_refusals.specs.Calls.{pack-refused, unpack-refused}
 
 -- of the codewords and the bytes lent, the number answered, and the bytes left
 pub record Packs (codewords : List ℤ) (lent : List ℕ) (n : ℕ) (left : List ℕ) : Type 0 where

@@ -10,13 +10,13 @@ use lib.IntN.{ℤ}
 use lib.ListN.{length, getD, drop, drop-of-length-le}
 use lib.Seq.{drop-cons, drop-drop, drop-at}
 use borrow.Author.Tests.{not-false, eqb-true}
-use Rattle.integers.specs.Halves.{either}
-use Rattle.lists.specs.Lengths.{sized-length}
-use Rattle.lists.specs.Every.{every, every-only}
+use Rattle.math_integers.specs.Halves.{either}
+use Rattle.math_lists.specs.Lengths.{sized-length}
+use Rattle.math_lists.specs.Every.{every, every-only}
 use Rattle.standard.specs.Packed.{bits, value, packed, byte-bits, unpacked, spare}
 use Rattle.standard.specs.House.{refusal, not-of, codewords-row, bytes-row, fields-row, spare-row, fits, pack-refusal, unpack-refusal}
-use Rattle.refusals.specs.Rows.{refusal-none}
-use Rattle.refusals.specs.Calls.{pack-exactly, pack-done, pack-refused, unpack-exactly, unpack-done, unpack-refused}
+use Rattle.law_refusals.specs.Rows.{refusal-none}
+use Rattle.law_refusals.specs.Calls.{pack-exactly, pack-done, pack-refused, unpack-exactly, unpack-done, unpack-refused}
 use Rattle.packing.specs.Bits.{bits-length, value-bits, bits-split, bits-zero}
 use Rattle.packing.specs.Promise.{Packs, Unpacks}
 

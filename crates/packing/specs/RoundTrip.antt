@@ -7,9 +7,9 @@ use lib.Dec.{ltb, eqb}
 use lib.IntN.{ℤ, pos, negsuc, natAbs}
 use lib.ListN.{length, replicate, drop}
 use borrow.Author.Tests.{ltb-true, lt-ltb, eqb-true}
-use Rattle.lists.specs.Every.{every, every-only, every-map}
-use Rattle.lists.specs.Tab.{zip-replicate}
-use Rattle.lists.specs.Cut.{sum}
+use Rattle.math_lists.specs.Every.{every, every-only, every-map}
+use Rattle.math_lists.specs.Tab.{zip-replicate}
+use Rattle.math_lists.specs.Cut.{sum}
 use Rattle.standard.specs.Tables.{LARc-bits}
 use Rattle.standard.specs.Frame.{sub-widths, widths}
 use Rattle.standard.specs.Packed.{bits, frame-bits, packed, byte-bits, unpacked, spare}

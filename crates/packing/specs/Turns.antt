@@ -8,15 +8,15 @@ use lib.IntN.{ℤ, pos, natAbs}
 use lib.Pow.{pow-mono}
 use lib.ListN.{length, getD, set, drop, getD-replicate, drop-of-length-le}
 use lib.Seq.{drop-cons}
-use Rattle.integers.specs.Halves.{P, N, abs-is}
-use Rattle.lists.specs.Every.{every-at}
-use Rattle.lists.specs.Tab.{zip-at, zip-length}
-use Rattle.lists.specs.Cut.{sum, rest-sum}
+use Rattle.math_integers.specs.Halves.{P, N, abs-is}
+use Rattle.math_lists.specs.Every.{every-at}
+use Rattle.math_lists.specs.Tab.{zip-at, zip-length}
+use Rattle.math_lists.specs.Cut.{sum, rest-sum}
 use Rattle.standard.specs.Frame.{widths}
 use Rattle.standard.specs.Packed.{bits, frame-bits, packed, unpacked}
 use Rattle.standard.specs.House.{fit, fits}
-use Rattle.fields.specs.Fit.{fit-is}
-use Rattle.codewords.specs.Widths.{width-most}
+use Rattle.law_fields.specs.Fit.{fit-is}
+use Rattle.frame_codewords.specs.Widths.{width-most}
 use Rattle.packing.specs.Waiting.{coming, Moving, moving-in, moving-out, moving-end, moving-last}
 use Rattle.packing.specs.RoundTrip.{field-count, bit-count, eights, zeros, byte-bits-is}
 

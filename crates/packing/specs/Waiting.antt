@@ -8,7 +8,7 @@ use native.Mathlib.Omega.{arith}
 use lib.Pow.{pow-pos, shr-lt}
 use lib.ListN.{length, getD, set, take, drop, replicate, drop-of-length-le}
 use lib.Seq.{drop-cons, take-at, drop-at, take-all, take-suc-set, set-split, append-snoc}
-use Rattle.lists.specs.Cut.{sum, cut}
+use Rattle.math_lists.specs.Cut.{sum, cut}
 use Rattle.standard.specs.Packed.{bits, value}
 use Rattle.packing.specs.Bits.{bits-length, value-bits, join-below, bits-join, bits-split, bits-zero}
 

@@ -35,7 +35,7 @@ fn fill_bytes(codewords: &[i16], bytes: &mut [u8])
     let mut have: u16 = 0;
     let mut at: usize = 0;
     for i in 0..76usize {
-        let width = codewords::field_width(i);
+        let width = frame_codewords::field_width(i);
         waiting = above(waiting, have, codewords[i] as u32);
         have = have + width;
         if 8 <= have {
@@ -57,7 +57,7 @@ fn fill_codewords(bytes: &[u8], codewords: &mut [i16])
     let mut have: u16 = 0;
     let mut at: usize = 0;
     for i in 0..76usize {
-        let width = codewords::field_width(i);
+        let width = frame_codewords::field_width(i);
         if have < width {
             waiting = above(waiting, have, bytes[at] as u32);
             have = have + 8;
@@ -91,7 +91,7 @@ pub fn pack(codewords: &[i16], bytes: &mut [u8]) -> u8
     if wrong != 0 {
         return wrong;
     }
-    if !codewords::fits(codewords) {
+    if !frame_codewords::fits(codewords) {
         return 5;
     }
     fill_bytes(codewords, bytes);

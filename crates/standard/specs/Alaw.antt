@@ -5,7 +5,7 @@ use mathlib.Core.List.{List, map}
 use lib.Bits.{bitXor}
 use lib.Dec.{leb, ltb}
 use lib.IntN.{ℤ, pos, negsuc, _*ℤ_}
-use Rattle.lists.specs.First.{first}
+use Rattle.math_lists.specs.First.{first}
 use Rattle.standard.specs.Arithmetic.{_>>_}
 use Rattle.standard.specs.Tables.{neg}
 

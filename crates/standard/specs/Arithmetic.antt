@@ -8,8 +8,8 @@ use lib.IntN.{ℤ, pos, negsuc, _+ℤ_, _-ℤ_, _*ℤ_, natAbs}
 use lib.Signed.{shrZ, leZ}
 use mir.Syntax.{Width, w16, w32}
 use mir.Val.{bits, hbits, toZ}
-use Rattle.lists.specs.First.{first}
-use Rattle.lists.specs.Best.{largest}
+use Rattle.math_lists.specs.First.{first}
+use Rattle.math_lists.specs.Best.{largest}
 
 -- "overflow control and saturation": z, or the end of the range that z has passed
 unfoldable pub clip : Width → ℤ → ℤ

@@ -3,9 +3,9 @@ use mathlib.Core.List.{List, map, zip}
 use lib.IntN.{ℤ, pos, natAbs}
 use lib.ListN.{replicate}
 use mir.Syntax.{w32}
-use Rattle.lists.specs.Scan.{run}
-use Rattle.lists.specs.Best.{Best}
-use Rattle.lists.specs.Cut.{cut}
+use Rattle.math_lists.specs.Scan.{run}
+use Rattle.math_lists.specs.Best.{Best}
+use Rattle.math_lists.specs.Cut.{cut}
 use Rattle.standard.specs.Arithmetic.{shr, sub, peak}
 use Rattle.standard.specs.Frame.{Subframe, Frame}
 use Rattle.standard.specs.Preprocessing.{downscaled, offset, emphasis}

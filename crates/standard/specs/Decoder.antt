@@ -3,7 +3,7 @@ use mathlib.Core.Bool.{cond}
 use mathlib.Core.List.{List, [], _∷_, map, zip, foldr, flatten}
 use lib.IntN.{ℤ, pos, natAbs}
 use lib.ListN.{take}
-use Rattle.lists.specs.Scan.{run}
+use Rattle.math_lists.specs.Scan.{run}
 use Rattle.standard.specs.Arithmetic.{add, sub, mult-r}
 use Rattle.standard.specs.Frame.{sample, Subframe, Frame}
 use Rattle.standard.specs.ShortTerm.{ratios, coefficients}

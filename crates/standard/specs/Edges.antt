@@ -4,7 +4,7 @@ use mathlib.Core.Path.{_≡_, refl}
 use mathlib.Core.List.{List, [], _∷_, map}
 use lib.IntN.{ℤ, pos}
 use lib.ListN.{replicate}
-use Rattle.lists.specs.Tab.{tab}
+use Rattle.math_lists.specs.Tab.{tab}
 use Rattle.standard.specs.Tables.{neg}
 use Rattle.standard.specs.Preprocessing.{downscaled, offset, emphasis}
 use Rattle.standard.specs.Lpc.{scalauto, measured, LAR, LARc}

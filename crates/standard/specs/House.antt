@@ -6,7 +6,7 @@ use lib.IntN.{ℤ, pos, negsuc, _-ℤ_, _*ℤ_}
 use lib.ListN.{length, replicate}
 use lib.Signed.{ltZ}
 use lib.Dec.{eqb, ltb}
-use Rattle.lists.specs.Every.{every}
+use Rattle.math_lists.specs.Every.{every}
 use Rattle.standard.specs.Arithmetic.{within}
 use Rattle.standard.specs.Tables.{neg}
 use Rattle.standard.specs.Frame.{widths}

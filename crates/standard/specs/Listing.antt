@@ -7,9 +7,9 @@ use mathlib.Core.List.{List, [], _∷_, _++_, map}
 use lib.IntN.{ℤ, natAbs}
 use lib.ListN.{length, replicate}
 use lib.Dec.{ltb}
-use Rattle.lists.specs.First.{first}
-use Rattle.lists.specs.Scan.{run}
-use Rattle.lists.specs.Cut.{cut}
+use Rattle.math_lists.specs.First.{first}
+use Rattle.math_lists.specs.Scan.{run}
+use Rattle.math_lists.specs.Cut.{cut}
 use Rattle.standard.specs.Frame.{sub-words}
 use Rattle.standard.specs.Files.{file-words}
 use Rattle.standard.specs.Lpc.{Ending, silent, stopped, complete}

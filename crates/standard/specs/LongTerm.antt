@@ -6,9 +6,9 @@ use lib.IntN.{ℤ, pos}
 use lib.ListN.{take, drop}
 use lib.Signed.{ltZ, leZ}
 use mir.Syntax.{w16, w32}
-use Rattle.lists.specs.First.{first}
-use Rattle.lists.specs.Best.{Best, best}
-use Rattle.lists.specs.Tab.{tab}
+use Rattle.math_lists.specs.First.{first}
+use Rattle.math_lists.specs.Best.{Best, best}
+use Rattle.math_lists.specs.Tab.{tab}
 use Rattle.standard.specs.Arithmetic.{is-zero, within, up, shr, sub, mult, mult-r, norm, peak, L-sum, L-squares}
 use Rattle.standard.specs.Tables.{_at_, DLB, QLB}
 use Rattle.standard.specs.Lpc.{normalized}

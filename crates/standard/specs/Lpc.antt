@@ -7,7 +7,7 @@ use lib.ListN.{length, take, drop, replicate}
 use lib.Signed.{ltZ}
 use lib.Dec.{eqb}
 use mir.Syntax.{w16, w32}
-use Rattle.lists.specs.Tab.{tab}
+use Rattle.math_lists.specs.Tab.{tab}
 use Rattle.standard.specs.Arithmetic.{_>>_, _<<_, low, is-zero, up, shl, shr, add, sub, mult, mult-r, abs, div, norm, peak, L-sum}
 use Rattle.standard.specs.Tables.{_at_, A, B, MIC, MAC}
 

@@ -1,11 +1,11 @@
 -- What a trial computes with: every definition of this crate, opened by one name.
 use mathlib.Core.List.{zipWith, zip, flatten}
-use Rattle.lists.specs.First.{first}
-use Rattle.lists.specs.Best.{largest, best}
-use Rattle.lists.specs.Tab.{tab}
-use Rattle.lists.specs.Scan.{run}
-use Rattle.lists.specs.Cut.{cut}
-use Rattle.lists.specs.Every.{every}
+use Rattle.math_lists.specs.First.{first}
+use Rattle.math_lists.specs.Best.{largest, best}
+use Rattle.math_lists.specs.Tab.{tab}
+use Rattle.math_lists.specs.Scan.{run}
+use Rattle.math_lists.specs.Cut.{cut}
+use Rattle.math_lists.specs.Every.{every}
 use Rattle.standard.specs.Arithmetic.{clip, modulo, keep, plus, minus, shl, shr, mult, mult-r, abs, div, L-mult, norm, peak, L-sum, L-squares}
 use Rattle.standard.specs.Tables.{A, B, MIC, MAC, INVA, DLB, QLB, H, NRFAC, FAC, LARc-bits}
 use Rattle.standard.specs.Frame.{sample, sub-words, words, places, sub-widths, widths, valid, sub-received, received}

@@ -3,7 +3,7 @@ use Prim.Native.Nat.{ℕ, zero, suc, _+_, _*_, _/_, _%_}
 use mathlib.Core.List.{List, [], _∷_, _++_, map, zipWith, flatten}
 use lib.IntN.{ℤ, pos, natAbs}
 use lib.ListN.{drop, replicate}
-use Rattle.lists.specs.Cut.{cut}
+use Rattle.math_lists.specs.Cut.{cut}
 use Rattle.standard.specs.Frame.{widths}
 
 -- the low bits of a number, as many as the width says, the lowest first

@@ -7,9 +7,9 @@ use lib.ListN.{take, drop, replicate}
 use lib.Signed.{leZ}
 use lib.Dec.{leb}
 use mir.Syntax.{w16}
-use Rattle.lists.specs.First.{first}
-use Rattle.lists.specs.Best.{best}
-use Rattle.lists.specs.Tab.{tab}
+use Rattle.math_lists.specs.First.{first}
+use Rattle.math_lists.specs.Best.{best}
+use Rattle.math_lists.specs.Tab.{tab}
 use Rattle.standard.specs.Arithmetic.{_>>_, _<<_, low, shl, shr, add, sub, mult, mult-r, L-add, L-sum, L-squares}
 use Rattle.standard.specs.Tables.{_at_, H, NRFAC, FAC}
 use Rattle.standard.specs.Frame.{Subframe}

@@ -5,8 +5,8 @@ use mathlib.Core.List.{List, [], _∷_, map, zipWith, zip, flatten}
 use lib.IntN.{ℤ, pos}
 use lib.ListN.{replicate}
 use lib.Signed.{ltZ}
-use Rattle.lists.specs.Tab.{tab}
-use Rattle.lists.specs.Scan.{run}
+use Rattle.math_lists.specs.Tab.{tab}
+use Rattle.math_lists.specs.Scan.{run}
 use Rattle.standard.specs.Arithmetic.{_>>_, _<<_, add, sub, mult-r}
 use Rattle.standard.specs.Tables.{_at_, B, MIC, INVA}
 use Rattle.standard.specs.Lpc.{with-sign}

@@ -4,7 +4,7 @@ use mathlib.Core.List.{List, [], _∷_}
 use lib.IntN.{ℤ, pos}
 use lib.ListN.{take, replicate}
 use mir.Syntax.{w16, w32}
-use Rattle.lists.specs.Scan.{run}
+use Rattle.math_lists.specs.Scan.{run}
 use Rattle.standard.specs.Arithmetic.{add, sub, L-add, L-sub, shr, shl, mult, mult-r, abs, div, norm}
 use Rattle.standard.specs.Tables.{neg}
 use Rattle.standard.specs.Frame.{words}

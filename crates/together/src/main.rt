@@ -95,8 +95,8 @@ fn disturbed(n: u32, codewords: &mut [i16; 76]) -> bool
     requires { ⌜ n ≤ 1000000 ⌝ }
 {
     if n % 3 != 0 {
-        if codewords::fits(codewords) {
-            agreement::strayed(stray_bits(n), codewords);
+        if frame_codewords::fits(codewords) {
+            test_agreement::strayed(stray_bits(n), codewords);
             return true;
         }
     }
@@ -110,7 +110,7 @@ fn same_history(p: Pair) -> bool
     let m = p.decoder;
     let dp = e.dp;
     let drp = m.drp;
-    agreement::same(&dp, &drp)
+    test_agreement::same(&dp, &drp)
 }
 
 fn same_ratios(p: Pair) -> bool
@@ -120,7 +120,7 @@ fn same_ratios(p: Pair) -> bool
     let m = p.decoder;
     let sent = e.larpp;
     let received = m.larpp;
-    agreement::same(&sent, &received)
+    test_agreement::same(&sent, &received)
 }
 
 // The samples themselves are not looked at.
@@ -137,8 +137,8 @@ fn handed_over(n: u32, before: Pair, samples: [i16; 160]) -> Outcome
     let m = before.decoder;
     let mut codewords = [0; 76];
     let coded = e.encode(&samples, &mut codewords);
-    let fit = codewords::fits(&codewords);
-    let lags = agreement::lags(&codewords);
+    let fit = frame_codewords::fits(&codewords);
+    let lags = test_agreement::lags(&codewords);
     let stray = disturbed(n, &mut codewords);
     let decoded = heard(m, codewords);
     let sender = coded.state;
@@ -167,12 +167,12 @@ fn verdict_field(v: Verdict, at: usize, out: &mut [u8]) -> usize
     ensures { λ r. ⌜ r ≤ at + 9 ⌝ }
 {
     match v {
-        Verdict::Refused => text::text(b"\trefused", at, out),
-        Verdict::Field => text::text(b"\tfield", at, out),
-        Verdict::Lag => text::text(b"\tlag", at, out),
-        Verdict::History => text::text(b"\thistory", at, out),
-        Verdict::Ratios => text::text(b"\tratios", at, out),
-        Verdict::Together => text::text(b"\ttogether", at, out),
+        Verdict::Refused => list_text::text(b"\trefused", at, out),
+        Verdict::Field => list_text::text(b"\tfield", at, out),
+        Verdict::Lag => list_text::text(b"\tlag", at, out),
+        Verdict::History => list_text::text(b"\thistory", at, out),
+        Verdict::Ratios => list_text::text(b"\tratios", at, out),
+        Verdict::Together => list_text::text(b"\ttogether", at, out),
     }
 }
 
@@ -182,9 +182,9 @@ fn stray_field(stray: bool, at: usize, out: &mut [u8]) -> usize
     ensures { λ r. ⌜ r ≤ at + 6 ⌝ }
 {
     if stray {
-        text::text(b"\tstray", at, out)
+        list_text::text(b"\tstray", at, out)
     } else {
-        text::text(b"\tplain", at, out)
+        list_text::text(b"\tplain", at, out)
     }
 }
 
@@ -197,12 +197,12 @@ fn line(n: u32, o: Outcome, at: usize, out: &mut [u8]) -> usize
     let e = pair.encoder;
     let dp = e.dp;
     let verdict = o.verdict;
-    let loudest = [sums::peak(&dp)];
-    let number = text::decimal(n, at, out);
+    let loudest = [op_sums::peak(&dp)];
+    let number = list_text::decimal(n, at, out);
     let how = stray_field(o.stray, number, out);
-    let peak = text::fields(&loudest, how, out);
+    let peak = list_text::fields(&loudest, how, out);
     let end = verdict_field(verdict, peak, out);
-    text::text(b"\n", end, out)
+    list_text::text(b"\n", end, out)
 }
 
 // The last line: the frames, and how many of them were not together.
@@ -210,17 +210,17 @@ fn last_line(frames: u32, apart: u32, out: &mut [u8; 64]) -> usize
     requires { ⌜ (frames ≤ 1000000) × (apart ≤ frames) ⌝ }
     ensures { λ r. ⌜ r ≤ 64 ⌝ }
 {
-    let name = text::text(b"E", 0, out);
-    let count = text::field(frames, name, out);
-    let end = text::field(apart, count, out);
-    text::text(b"\n", end, out)
+    let name = list_text::text(b"E", 0, out);
+    let count = list_text::field(frames, name, out);
+    let end = list_text::field(apart, count, out);
+    list_text::text(b"\n", end, out)
 }
 
 // The text in front of a room.
 fn print(text: [u8; 64], length: usize) -> bool
     requires { ⌜ length ≤ 64 ⌝ }
 {
-    streams::written(io::write_all(1, &text[..length]))
+    io_streams::written(io::write_all(1, &text[..length]))
 }
 
 fn end(frames: u32, apart: u32)
@@ -250,7 +250,7 @@ fn frame(t: Tally, bytes: &[u8], at: usize, out: &mut [u8]) -> Lines
     ensures room { λ r. ⌜ r .end ≤ at + 64 ⌝ }
 {
     let mut samples = [0; 160];
-    files::words(bytes, &mut samples);
+    io_files::words(bytes, &mut samples);
     let n = t.frames + 1;
     let before = t.pair;
     let o = handed_over(n, before, samples);
@@ -297,8 +297,8 @@ fn turn(t: Tally, there: usize, room: &mut [u8], out: &mut [u8]) -> After
     ensures room { λ r. ⌜ r .there ≤ 20480 ⌝ }
     ensures more { λ r. ⌜ (r .more ≡ true → t .frames < r .tally .frames) ⌝ }
 {
-    let got = streams::gather(there, 320, room);
-    if !streams::whole(got, 320) {
+    let got = io_streams::gather(there, 320, room);
+    if !io_streams::whole(got, 320) {
         if !got.failed {
             end(t.frames, t.apart);
         }
@@ -308,15 +308,15 @@ fn turn(t: Tally, there: usize, room: &mut [u8], out: &mut [u8]) -> After
             more: false,
         };
     }
-    let frames = streams::frames(got.count, 320, (1000000 - t.frames) as usize);
+    let frames = io_streams::frames(got.count, 320, (1000000 - t.frames) as usize);
     let lines = list(t, frames, room, out);
-    let rest = streams::keep(320 * frames, got.count, room);
+    let rest = io_streams::keep(320 * frames, got.count, room);
     let next = lines.tally;
     let length = lines.end;
     After {
         tally: next,
         there: rest,
-        more: streams::written(io::write_all(1, &out[0..length])),
+        more: io_streams::written(io::write_all(1, &out[0..length])),
     }
 }
 

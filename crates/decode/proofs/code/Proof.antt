@@ -5,7 +5,7 @@ use native.Mathlib.Omega.{arith}
 use lib.ListN.{length}
 use borrow.Author.Needs.{needs}
 use Rattle.decoder.specs.Promise.{memory}
-use Rattle.streams.specs.Frames.{Through, through-none, through-part}
+use Rattle.io_streams.specs.Frames.{Through, through-none, through-part}
 use Rattle.decode.specs.Frame.{decoded}
 use Rattle.decode.proofs.code.Statement.{statement}
 use Rattle.decode.proofs.code.Tie as tie

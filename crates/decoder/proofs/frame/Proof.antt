@@ -7,10 +7,10 @@ use lib.IntN.{ℤ, pos}
 use lib.ListN.{length, drop, replicate, length-append, length-replicate}
 use mir.Syntax.{w16}
 use mir.Val.{SFits}
-use Rattle.integers.specs.Halves.{mem}
-use Rattle.integers.specs.Ranges.{back, res}
-use Rattle.residual.specs.Received.{ratio-words, residual}
-use Rattle.residual.specs.Frame.{samples-length, samples-after, history-after}
+use Rattle.math_integers.specs.Halves.{mem}
+use Rattle.math_integers.specs.Ranges.{back, res}
+use Rattle.frame_received.specs.Received.{ratio-words, residual}
+use Rattle.frame_received.specs.Frame.{samples-length, samples-after, history-after}
 use Rattle.decoder.specs.Promise.{memory}
 use Rattle.decoder.specs.Whole.{whole, lent-history, lent-all}
 use Rattle.decoder.proofs.frame.Statement.{statement}

@@ -5,7 +5,7 @@ use lib.IntN.{pos}
 use lib.Signed.{leZ}
 use mir.Syntax.{w16}
 use mir.Val.{SFits}
-use Rattle.integers.specs.Ranges.{back}
+use Rattle.math_integers.specs.Ranges.{back}
 use Rattle.standard.specs.House.{sound-decoder}
 use Rattle.decoder.specs.Promise.{memory}
 use Rattle.decoder.proofs.sound.Statement.{statement}

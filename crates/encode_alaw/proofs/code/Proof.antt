@@ -5,7 +5,7 @@ use native.Mathlib.Omega.{arith}
 use lib.ListN.{length}
 use borrow.Author.Needs.{needs}
 use Rattle.encoder.specs.Promise.{coder}
-use Rattle.streams.specs.Frames.{Through, through-none, through-part}
+use Rattle.io_streams.specs.Frames.{Through, through-none, through-part}
 use Rattle.encode_alaw.specs.Frame.{encoded}
 use Rattle.encode_alaw.proofs.code.Statement.{statement}
 use Rattle.encode_alaw.proofs.code.Tie as tie

@@ -2,8 +2,8 @@ use mathlib.Core.Path.{sym, ap}
 use mathlib.Core.Option.{Option, some}
 use borrow.Author.Needs.{needs}
 use Rattle.standard.specs.Lpc as lpc
-use Rattle.reflection.specs.declared.Ending.{Ending}
-use Rattle.reflection.specs.Promise.{ended}
+use Rattle.lpc_reflection.specs.declared.Ending.{Ending}
+use Rattle.lpc_reflection.specs.Promise.{ended}
 use Rattle.encoder.specs.Promise.{ending}
 use Rattle.encoder.proofs.answered.Statement.{statement}
 use Rattle.encoder.proofs.answered.Tie as tie

@@ -1,4 +1,4 @@
-use Rattle.integers.specs.Ranges.{back}
+use Rattle.math_integers.specs.Ranges.{back}
 use Rattle.encoder.proofs.between.Statement.{statement}
 use Rattle.encoder.proofs.between.Tie as tie
 

@@ -9,12 +9,12 @@ use lib.Seq.{take-at, take-take, drop-append-le}
 use mir.Syntax.{w16, w32}
 use mir.Val.{SFits}
 use borrow.Author.Needs.{needs}
-use Rattle.integers.specs.Ranges.{back}
+use Rattle.math_integers.specs.Ranges.{back}
 use Rattle.standard.specs.Coder.{Coder, analysis}
 use Rattle.standard.specs.House.{sound-coder}
-use Rattle.lengths.specs.Analysis.{analysis-codes-length, analysis-d-length}
-use Rattle.reflection.specs.Promise.{ended}
-use Rattle.analysis.specs.Whole.{coder-of}
+use Rattle.law_lengths.specs.Analysis.{analysis-codes-length, analysis-d-length}
+use Rattle.lpc_reflection.specs.Promise.{ended}
+use Rattle.frame_analysis.specs.Whole.{coder-of}
 use Rattle.encoder.specs.Promise.{coder, marks}
 use Rattle.encoder.specs.Subframes.{dp₄, four-words, four-marks, four-added, four-length, four-last}
 use Rattle.encoder.specs.Whole.{unseen, with-history, state-is, ending-is, marks-are, words-are}

@@ -4,8 +4,8 @@ use native.Mathlib.Omega.{arith}
 use lib.IntN.{pos}
 use lib.ListN.{length, length-set}
 use borrow.Author.Needs.{needs, sfits-of}
-use Rattle.integers.specs.Ranges.{back}
-use Rattle.lists.specs.Fill.{filled, fill-next, fill-end}
+use Rattle.math_integers.specs.Ranges.{back}
+use Rattle.math_lists.specs.Fill.{filled, fill-next, fill-end}
 use Rattle.encoder.proofs.ratios.Statement.{statement}
 use Rattle.encoder.proofs.ratios.Tie as tie
 

@@ -6,9 +6,9 @@ use lib.IntN.{ℤ, pos, _+ℤ_, _-ℤ_, _*ℤ_, *ℤ-comm}
 use mir.Syntax.{w16, w32}
 use mir.Val.{SFits}
 use borrow.Author.Needs.{needs}
-use Rattle.integers.specs.Halves.{zar, know, mem}
-use Rattle.integers.specs.Sums.{add-is, minus-is, scale-is}
-use Rattle.integers.specs.Ranges.{wide, back}
+use Rattle.math_integers.specs.Halves.{zar, know, mem}
+use Rattle.math_integers.specs.Sums.{add-is, minus-is, scale-is}
+use Rattle.math_integers.specs.Ranges.{wide, back}
 use Rattle.standard.specs.Arithmetic.{within}
 use Rattle.standard.specs.Tables.{neg}
 use Rattle.standard.specs.House.{sound-coder}

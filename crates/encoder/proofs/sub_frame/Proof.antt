@@ -9,11 +9,11 @@ use native.Mathlib.Omega.{arith}
 use lib.IntN.{ℤ, pos}
 use lib.Signed.{ltZ}
 use borrow.Author.Needs.{needs}
-use Rattle.lists.specs.Parts.{put}
+use Rattle.math_lists.specs.Parts.{put}
 use Rattle.standard.specs.Frame.{sub-words}
 use Rattle.standard.specs.Coder.{Subcoded, sub-coded}
 use Rattle.standard.specs.House.{rule, found, mark}
-use Rattle.subframe.specs.Whole.{added}
+use Rattle.frame_subframe.specs.Whole.{added}
 use Rattle.encoder.specs.Subframes.{own, before}
 use Rattle.encoder.proofs.sub_frame.Statement.{statement}
 use Rattle.encoder.proofs.sub_frame.Tie as tie

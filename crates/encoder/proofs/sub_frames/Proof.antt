@@ -8,7 +8,7 @@ use borrow.Author.Needs.{needs}
 use Rattle.standard.specs.Frame.{sub-words}
 use Rattle.standard.specs.Coder.{sub-coded}
 use Rattle.standard.specs.House as house
-use Rattle.history.specs.Window.{Stands, stands-lent, stands-all}
+use Rattle.long_history.specs.Window.{Stands, stands-lent, stands-all}
 use Rattle.encoder.specs.declared.Marks.{Marks}
 use Rattle.encoder.specs.Promise.{marks}
 use Rattle.encoder.specs.Subframes.{own, before, dp₁, dp₂, dp₃, added₁, added₂, added₃, four-marks, turn, four-put, words-length}

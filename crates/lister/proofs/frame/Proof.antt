@@ -7,9 +7,9 @@ use native.Mathlib.Omega.{arith}
 use lib.ListN.{length, take, drop, replicate}
 use lib.Seq.{take-append-seam}
 use borrow.Author.Needs.{needs}
-use Rattle.text.specs.Written.{Puts, puts-length}
-use Rattle.listing.specs.Promise.{Lists, listed, state}
-use Rattle.streams.specs.Frames.{puts-all}
+use Rattle.list_text.specs.Written.{Puts, puts-length}
+use Rattle.list_frames.specs.Promise.{Lists, listed, state}
+use Rattle.io_streams.specs.Frames.{puts-all}
 use Rattle.lister.proofs.frame.Statement.{statement}
 use Rattle.lister.proofs.frame.Tie as tie
 

@@ -4,9 +4,9 @@ use mathlib.Core.Path.{_≡_}
 use native.Mathlib.Omega.{arith}
 use lib.ListN.{length}
 use borrow.Author.Needs.{needs}
-use Rattle.listing.specs.Promise as promise
-use Rattle.listing.specs.Promise.{listed}
-use Rattle.streams.specs.Frames.{Through, through-none, through-next}
+use Rattle.list_frames.specs.Promise as promise
+use Rattle.list_frames.specs.Promise.{listed}
+use Rattle.io_streams.specs.Frames.{Through, through-none, through-next}
 use Rattle.lister.proofs.list.Statement.{statement}
 use Rattle.lister.proofs.list.Tie as tie
 

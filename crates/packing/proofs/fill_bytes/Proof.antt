@@ -7,9 +7,9 @@ use lib.ListN.{length, getD, length-set}
 use mir.Syntax.{w16}
 use mir.Val.{SFits}
 use borrow.Author.Needs.{needs}
-use Rattle.integers.specs.Halves.{zar, know}
-use Rattle.integers.specs.Ranges.{back}
-use Rattle.codewords.specs.Widths.{width-most}
+use Rattle.math_integers.specs.Halves.{zar, know}
+use Rattle.math_integers.specs.Ranges.{back}
+use Rattle.frame_codewords.specs.Widths.{width-most}
 use Rattle.packing.specs.Bits.{more-bits}
 use Rattle.packing.specs.Waiting.{moving-start}
 use Rattle.packing.specs.Turns.{Packing, limit-most, word-below, pack-room, pack-in, pack-out, pack-end}

@@ -6,11 +6,11 @@ use native.Mathlib.Omega.{arith}
 use lib.Pow.{pow-pos}
 use lib.ListN.{length, length-set}
 use borrow.Author.Needs.{needs}
-use Rattle.integers.specs.Halves.{zar}
-use Rattle.integers.specs.Ranges.{back}
+use Rattle.math_integers.specs.Halves.{zar}
+use Rattle.math_integers.specs.Ranges.{back}
 use Rattle.packing.specs.Bits.{more-bits}
 use Rattle.packing.specs.Waiting.{moving-start}
-use Rattle.codewords.specs.Widths.{width-most}
+use Rattle.frame_codewords.specs.Widths.{width-most}
 use Rattle.packing.specs.Turns.{Unpacking, limit-most, unpack-room, unpack-in, unpack-out, unpack-end}
 use Rattle.packing.proofs.fill_codewords.Statement.{statement}
 use Rattle.packing.proofs.fill_codewords.Tie as tie

@@ -1,5 +1,5 @@
 use borrow.Author.Needs.{needs}
-use Rattle.codewords.specs.Bits.{power}
+use Rattle.frame_codewords.specs.Bits.{power}
 use Rattle.packing.proofs.power.Statement.{statement}
 use Rattle.packing.proofs.power.Tie as tie
 

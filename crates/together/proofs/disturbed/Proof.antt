@@ -1,6 +1,6 @@
 use mathlib.Core.Path.{sym, _∙_}
 use borrow.Author.Needs.{needs}
-use Rattle.integers.specs.Ranges.{res}
+use Rattle.math_integers.specs.Ranges.{res}
 use Rattle.together.proofs.disturbed.Statement.{statement}
 use Rattle.together.proofs.disturbed.Tie as tie
 

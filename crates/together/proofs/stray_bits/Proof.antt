@@ -6,10 +6,10 @@ use mir.Syntax.{w16}
 use mir.Val.{SFits, toZ}
 use mir.Facts.{toZ-pos}
 use borrow.Author.Needs.{needs}
-use Rattle.integers.specs.Halves.{zar, apart}
-use Rattle.integers.specs.Sums.{minus-is}
-use Rattle.integers.specs.Ranges.{back}
-use Rattle.arithmetic.specs.Within.{range-yes}
+use Rattle.math_integers.specs.Halves.{zar, apart}
+use Rattle.math_integers.specs.Sums.{minus-is}
+use Rattle.math_integers.specs.Ranges.{back}
+use Rattle.law_arithmetic.specs.Within.{range-yes}
 use Rattle.together.proofs.stray_bits.Statement.{statement}
 use Rattle.together.proofs.stray_bits.Tie as tie
 

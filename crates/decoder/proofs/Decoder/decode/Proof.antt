@@ -6,7 +6,7 @@ use lib.IntN.{ℤ}
 use borrow.Author.Needs.{needs}
 use borrow.Author.Tests.{not-true, not-false}
 use Rattle.standard.specs.House.{sound-decoder, decode-refusal}
-use Rattle.refusals.specs.Calls.{decode-exactly}
+use Rattle.law_refusals.specs.Calls.{decode-exactly}
 use Rattle.decoder.specs.declared.Decoder.{Decoder}
 use Rattle.decoder.specs.declared.Decoded.{Decoded}
 use Rattle.decoder.specs.Promise.{memory, Decodes, refused, refusal-keeps, done-keeps}

@@ -4,8 +4,8 @@ use mathlib.Core.Path.{_≡_}
 use mathlib.Core.List.{List}
 use lib.ListN.{length}
 use borrow.Author.Needs.{needs}
-use Rattle.refusals.specs.Rows.{answer-done, answer-else}
-use Rattle.refusals.specs.Calls.{decode-alaw-exactly}
+use Rattle.law_refusals.specs.Rows.{answer-done, answer-else}
+use Rattle.law_refusals.specs.Calls.{decode-alaw-exactly}
 use Rattle.decoder.specs.Promise.{refusal-keeps-octets, octets-keep}
 use Rattle.decoder.proofs.Decoder.decode_alaw.Statement.{statement}
 use Rattle.decoder.proofs.Decoder.decode_alaw.Tie as tie

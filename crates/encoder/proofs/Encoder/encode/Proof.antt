@@ -6,7 +6,7 @@ use lib.IntN.{ℤ}
 use borrow.Author.Needs.{needs}
 use borrow.Author.Tests.{not-true, not-false}
 use Rattle.standard.specs.House.{sound-coder, encode-refusal}
-use Rattle.refusals.specs.Calls.{encode-exactly}
+use Rattle.law_refusals.specs.Calls.{encode-exactly}
 use Rattle.encoder.specs.declared.Encoder.{Encoder}
 use Rattle.encoder.specs.declared.Encoded.{Encoded}
 use Rattle.encoder.specs.Promise.{coder, Encodes, refused, refusal-keeps, done-keeps}

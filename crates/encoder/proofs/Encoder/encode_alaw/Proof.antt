@@ -1,8 +1,8 @@
 -- encode_alaw is encode of the samples that the octets stand for.
 use mathlib.Core.Path.{sym, _∙_}
 use borrow.Author.Needs.{needs}
-use Rattle.refusals.specs.Calls.{encode-exactly}
-use Rattle.alaw.specs.Facts.{samples-length}
+use Rattle.law_refusals.specs.Calls.{encode-exactly}
+use Rattle.pcm_alaw.specs.Facts.{samples-length}
 use Rattle.encoder.specs.Promise.{refusal-keeps}
 use Rattle.encoder.proofs.Encoder.encode_alaw.Statement.{statement}
 use Rattle.encoder.proofs.Encoder.encode_alaw.Tie as tie

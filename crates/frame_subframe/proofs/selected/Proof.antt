@@ -1,0 +1,62 @@
+use Prim.Native.Nat.{ℕ}
+use mathlib.Core.Path.{_≡_, ap, _∙_}
+use native.Mathlib.Omega.{arith}
+use lib.ListN.{length, take}
+use lib.Seq.{take-all}
+use borrow.Author.Needs.{needs}
+use Rattle.math_integers.specs.Ranges.{res}
+use Rattle.standard.specs.Arithmetic.{peak}
+use Rattle.standard.specs.Rpe.{grid, Mc, xmaxc}
+use Rattle.law_fields.specs.Amplitudes.{peak-in, xmaxc-fits}
+use Rattle.law_fields.specs.Pulses.{grid-in}
+use Rattle.frame_subframe.specs.Whole.{block-code}
+use Rattle.frame_subframe.proofs.selected.Statement.{statement}
+use Rattle.frame_subframe.proofs.selected.Tie as tie
+
+mc-requires : tie.Need-mc-requires
+mc-requires c κs = search needs
+
+grid-requires : tie.Need-grid-requires
+grid-requires c κs = omega (arith, c .mc .ensures, grid-in (c .before .args .x))
+
+-- the selected grid
+selects : (c : tie.After-grid) → let x = c .before .before .args .x in c .grid .result ≡ grid (Mc x) x
+selects c =
+    let m = c .before .mc in
+    let x = c .before .before .args .x in
+    let given : c .grid .result ≡ grid (m .result) x = c .grid .ensures in
+    given ∙ ap (λ (n : ℕ). grid n x) (m .ensures)
+
+-- the code of its largest size
+codes : (c : tie.After-xmaxc) → c .xmaxc .result ≡ block-code (c .before .before .before .before .before .before .args .x)
+codes c =
+    let k = c .before in
+    let g = k .before .before .before in
+    let n : length (g .grid .result) ≡ 13 = search needs in
+    let e : k .peak .result ≡ peak (take 13 (g .grid .result)) = k .peak .ensures in
+    c .xmaxc .ensures ∙ ap xmaxc (res (k .peak) ∙ (e ∙ ap peak (take-all 13 (g .grid .result) (omega arith) ∙ selects g)))
+
+pulse-codes-requires : tie.Need-pulse-codes-requires
+pulse-codes-requires c κs =
+    let x = c .before .before .before .before .before .before .args .x in
+    rw (res (c .xmaxc), codes c) (xmaxc-fits (peak (grid (Mc x) x)) (peak-in (grid (Mc x) x)))
+
+returns : tie.Need-returns
+returns c =
+    let k = c .before in
+    let g = k .before .before .before .before in
+    (g .before .mc .ensures, (res (k .xmaxc) ∙ codes k, rw (res (k .xmaxc), codes k, selects g) at (c .pulse-codes .ensures)))
+
+pub selected-spec : {M : Type 1} → statement M
+selected-spec =
+    tie.close
+    (tie.spec
+    mc-requires
+    grid-requires
+    (λ c. search needs)
+    (λ c. search needs)
+    (λ c. search needs)
+    (λ c κs. search needs)
+    (λ c κs. search needs)
+    pulse-codes-requires
+    returns)

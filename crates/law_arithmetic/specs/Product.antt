@@ -1,0 +1,73 @@
+-- mult, mult_r and L_mult: their ranges, and that no clip is met but by the two least words.
+use Prim.Native.Nat.{ℕ, _+_, _*_, _<_, _≤_}
+use mathlib.Core.Logic.{⊎-elim}
+use mathlib.Core.Path.{_≡_, ap}
+use native.Mathlib.Omega.{arith}
+use lib.IntN.{ℤ, pos, _+ℤ_, _*ℤ_, *ℤ-comm}
+use mir.Syntax.{w16, w32}
+use mir.Val.{SFits}
+use Rattle.math_integers.specs.Halves.{P, N, apart, le-or-lt, zar, know}
+use Rattle.math_integers.specs.Sums.{add-is, mul-is, mul-in, shr-is}
+use Rattle.standard.specs.Arithmetic.{_>>_, clip, mult, mult-r, L-mult}
+use Rattle.law_arithmetic.specs.Clip.{clip-is, clip-fits, clip-plain}
+
+module _ (a b : ℤ) where
+  pub mult-fits : SFits w16 (mult a b)
+  unfolding mult
+  mult-fits = clip-fits w16 ((a *ℤ b) >> 15)
+
+  pub mult-r-fits : SFits w16 (mult-r a b)
+  unfolding mult-r
+  mult-r-fits = clip-fits w16 ((a *ℤ b +ℤ pos 16384) >> 15)
+
+  pub L-mult-fits : SFits w32 (L-mult a b)
+  unfolding L-mult
+  L-mult-fits = clip-fits w32 (a *ℤ b +ℤ a *ℤ b)
+
+  -- mult_r gives the same either way round
+  pub mult-r-turned : mult-r a b ≡ mult-r b a
+  unfolding mult-r
+  mult-r-turned = ap (λ (z : ℤ). clip w16 ((z +ℤ pos 16384) >> 15)) (*ℤ-comm a b)
+
+  -- a product within B · 32768 comes out within B
+  module _ (B : ℕ) (h : P (a *ℤ b) + N (a *ℤ b) ≤ B * 32768) where
+    pub mult-in : P (mult a b) + N (mult a b) ≤ B
+    unfolding mult
+    mult-in = omega (arith, apart (mult a b), shr-is (a *ℤ b) 32768 (omega arith), clip-is w16 ((a *ℤ b) >> 15))
+
+    pub mult-r-in : P (mult-r a b) + N (mult-r a b) ≤ B
+    unfolding mult-r
+    mult-r-in = omega (arith, apart (mult-r a b), add-is (a *ℤ b) (pos 16384), shr-is (a *ℤ b +ℤ pos 16384) 32768 (omega arith), clip-is w16 ((a *ℤ b +ℤ pos 16384) >> 15))
+
+  -- and its double within twice its bound
+  pub L-mult-in : (B : ℕ) → P (a *ℤ b) + N (a *ℤ b) ≤ B → P (L-mult a b) + N (L-mult a b) ≤ B + B
+  unfolding L-mult
+  L-mult-in B h = omega (arith, apart (L-mult a b), add-is (a *ℤ b) (a *ℤ b), clip-is w32 (a *ℤ b +ℤ a *ℤ b))
+
+  -- of two words that are not both the least
+  module _ (f : SFits w16 a) (g : SFits w16 b) (h : N a + N b < 65536) where
+    below : P (a *ℤ b) + N (a *ℤ b) ≤ 1073709056
+    below =
+        ⊎-elim
+        (λ l. mul-in 32767 32768 a b (omega (arith, know f)) (omega (arith, know g)))
+        (λ l. mul-in 32768 32767 a b (omega (arith, know f)) (omega (arith, know g)))
+        (le-or-lt (N a) 32767)
+
+    pub mult-plain : mult a b ≡ (a *ℤ b) >> 15
+    unfolding mult
+    mult-plain = clip-plain (omega (zar, below, shr-is (a *ℤ b) 32768 (omega arith)))
+
+    pub mult-r-plain : mult-r a b ≡ (a *ℤ b +ℤ pos 16384) >> 15
+    unfolding mult-r
+    mult-r-plain = clip-plain (omega (zar, below, add-is (a *ℤ b) (pos 16384), shr-is (a *ℤ b +ℤ pos 16384) 32768 (omega arith)))
+
+    pub L-mult-plain : L-mult a b ≡ a *ℤ b +ℤ a *ℤ b
+    unfolding L-mult
+    L-mult-plain = clip-plain (omega (zar, below, add-is (a *ℤ b) (a *ℤ b)))
+
+-- 0 times any number is 0
+pub L-mult-zero : (b : ℤ) → L-mult (pos 0) b ≡ pos 0
+L-mult-zero b =
+    let e = mul-is (pos 0) b in
+    let h = L-mult-in (pos 0) b 0 (omega arith) in
+    omega (zar, apart (L-mult (pos 0) b))

@@ -1,0 +1,74 @@
+-- Partial sums of products: however many of the terms are added, the sum stays within the bound that they all have together.
+use Prim.Native.Nat.{ℕ, zero, suc, _+_, _*_, _≤_}
+use mathlib.Core.Path.{_≡_, refl}
+use mathlib.Core.Bool.{true}
+use mathlib.Core.List.{List, [], _∷_, map, zipWith, foldl}
+use native.Mathlib.Nat.{mul-le-mul-left}
+use native.Mathlib.Omega.{arith}
+use lib.IntN.{ℤ, pos, _+ℤ_, natAbs}
+use lib.ListN.{length, take}
+use borrow.Author.Tests.{leb-true}
+use Rattle.math_integers.specs.Halves.{abs-is, apart}
+use Rattle.math_integers.specs.Sums.{add-is, mul-in}
+use Rattle.math_lists.specs.Cut.{sum}
+use Rattle.math_lists.specs.Every.{every, every-cons}
+use Rattle.standard.specs.Arithmetic.{L-mult}
+use Rattle.standard.specs.Tables.{H}
+use Rattle.law_arithmetic.specs.Product.{L-mult-in}
+use Rattle.law_arithmetic.specs.Sum.{Bounded, none, _also_}
+use Rattle.op_sums.specs.Room.{at-most}
+
+-- the first n of terms that each have a bound of their own, from a start within C
+partial : {xs : List ℤ} {bs : List ℕ} → Bounded xs bs → (C : ℕ) (s : ℤ) → natAbs s ≤ C → (n : ℕ)
+    → natAbs (foldl _+ℤ_ s (take n xs)) ≤ C + sum bs
+partial t C s h zero = omega arith
+partial none C s h (suc n) = omega arith
+partial (_also_ {x = x} {b = b} k t) C s h (suc n) =
+    let z = s +ℤ x in
+    omega (arith, partial t (C + b) z (omega (arith, add-is s x, abs-is s, abs-is x, abs-is z, apart z)) n)
+
+-- twice a product, the first factor being within A
+abbrev bound : ℕ → ℤ → ℤ → ℕ
+bound A x y = 2 * (A * natAbs y)
+
+-- it bounds each term
+products : (A : ℕ) (a b : List ℤ) → every (at-most A) a ≡ true → Bounded (zipWith L-mult a b) (zipWith (bound A) a b)
+unfolding zipWith
+products A [] b e = none
+products A (x ∷ a) [] e = none
+products A (x ∷ a) (y ∷ b) e =
+    let (g, h) = every-cons (at-most A) x a .0 e in
+    let m = mul-in A (natAbs y) x y (omega (arith, leb-true (natAbs x) A g, abs-is x)) (omega (arith, abs-is y)) in
+    let p : natAbs (L-mult x y) ≤ bound A x y = omega (arith, L-mult-in x y (A * natAbs y) m, abs-is (L-mult x y)) in
+    p also products A a b h
+
+-- all of them together, where the second factors are within B
+alike : (A B : ℕ) (a b : List ℤ) → every (at-most B) b ≡ true → sum (zipWith (bound A) a b) ≤ length a * (2 * (A * B))
+unfolding zipWith
+alike A B [] b e = omega arith
+alike A B (x ∷ a) [] e = omega arith
+alike A B (x ∷ a) (y ∷ b) e =
+    let (g, h) = every-cons (at-most B) y b .0 e in
+    omega (arith, alike A B a b h, mul-le-mul-left A (leb-true (natAbs y) B g))
+
+-- or, by the second factors as they are
+others : (A : ℕ) (a b : List ℤ) → sum (zipWith (bound A) a b) ≤ sum (map (λ y. 2 * (A * natAbs y)) b)
+unfolding zipWith
+others A [] b = omega arith
+others A (x ∷ a) [] = omega arith
+others A (x ∷ a) (y ∷ b) = omega (arith, others A a b)
+
+-- which are the taps of the weighting filter in sum (f)
+taps : sum (map (λ y. 2 * (32768 * natAbs y)) H) ≡ 1625161728
+unfolding H
+taps = refl
+
+-- sums (b) to (e)
+pub partial-in : (A B : ℕ) {most : ℕ} (a b : List ℤ) → every (at-most A) a ≡ true → every (at-most B) b ≡ true → length a * (2 * (A * B)) ≤ most
+    → (n : ℕ) → natAbs (foldl _+ℤ_ (pos 0) (take n (zipWith L-mult a b))) ≤ most
+partial-in A B {most} a b e f m n = omega (arith, partial (products A a b e) 0 (pos 0) (omega arith) n, alike A B a b f)
+
+-- sum (f)
+pub partial-taps : (a : List ℤ) → every (at-most 32768) a ≡ true → (n : ℕ)
+    → natAbs (foldl _+ℤ_ (pos 8192) (take n (zipWith L-mult a H))) ≤ 1625169920
+partial-taps a e n = omega (arith, partial (products 32768 a H e) 8192 (pos 8192) (omega arith) n, others 32768 a H, taps)

@@ -1,0 +1,112 @@
+-- 4.2.2: the 31 by 16 bits multiplication by 32735, in its two parts, is the plain one, rounded: no clip is met, and no bit is lost.
+use Prim.Native.Nat.{suc, _+_, _*_, _-_, _%_, _<_, _≤_}
+use mathlib.Core.Path.{_≡_, ap, _∙_}
+use mathlib.Core.Bool.{true}
+use native.Mathlib.Omega.{arith}
+use lib.IntN.{ℤ, pos, negsuc, _+ℤ_, _-ℤ_, _*ℤ_, *ℤ-comm}
+use mir.Syntax.{w16, w32}
+use mir.Val.{SFits}
+use Rattle.math_integers.specs.Halves.{P, N, apart, eq-is, zar, know}
+use Rattle.math_integers.specs.Sums.{add-is, minus-is, mul-is, scale-is, shr-is}
+use Rattle.standard.specs.Arithmetic.{modulo, _>>_, low, up, mult-r, L-sub, L-mult}
+use Rattle.standard.specs.Preprocessing.{recursive}
+use Rattle.law_arithmetic.specs.Within.{range-is}
+use Rattle.law_arithmetic.specs.Clip.{plus-plain, minus-plain}
+use Rattle.law_arithmetic.specs.Shift.{modulo-below, keep-plain}
+use Rattle.law_arithmetic.specs.Product.{mult-r-plain, L-mult-plain}
+use Rattle.law_soundness.specs.Ranges.{long-range}
+
+-- ---- the plain product
+
+-- 32735 · x / 32768, rounded
+abbrev pub decayed : ℤ → ℤ
+decayed x = (pos 32735 *ℤ x +ℤ pos 16384) >> 15
+
+-- what it is, for `omega`
+pub decayed-is : (x : ℤ)
+    → (32768 * P (decayed x) + 32735 * N x ≤ 32768 * N (decayed x) + 32735 * P x + 16384)
+    × (32768 * N (decayed x) + 32735 * P x + 16384 < 32768 * P (decayed x) + 32735 * N x + 32768)
+    × (P (decayed x) ≤ P x) × (N (decayed x) ≤ N x)
+decayed-is x =
+    let y = pos 32735 *ℤ x in
+    omega (arith, apart x, mul-is (pos 32735) x, add-is y (pos 16384), apart (y +ℤ pos 16384), shr-is (y +ℤ pos 16384) 32768 (omega arith))
+
+-- a multiple of 32768 has nothing to round
+pub decayed-shift : (x k : ℤ) → decayed (x +ℤ pos 32768 *ℤ k) ≡ decayed x +ℤ pos 32735 *ℤ k
+decayed-shift x k =
+    let y = pos 32768 *ℤ k in
+    let z = pos 32735 *ℤ k in
+    omega (zar, decayed-is x, decayed-is (x +ℤ y), add-is x y, mul-is (pos 32768) k, mul-is (pos 32735) k, add-is (decayed x) z)
+
+-- ---- in two parts
+
+-- the high part and the low part, as 001 computes them
+abbrev pub msp : ℤ → ℤ
+msp x = low (x >> 15)
+
+abbrev pub lsp : ℤ → ℤ
+lsp x = low (L-sub x (up w32 (msp x) 15))
+
+-- what they come to together
+parts : (x : ℤ) → x ≡ pos (modulo x 32768) +ℤ pos 32768 *ℤ (x >> 15)
+unfolding modulo
+parts (pos n) = omega (zar, mul-is (pos 32768) (pos n >> 15), add-is (pos (n % 32768)) (pos 32768 *ℤ (pos n >> 15)))
+parts (negsuc n) =
+    omega (zar, mul-is (pos 32768) (negsuc n >> 15), add-is (pos (32768 - suc (n % 32768))) (pos 32768 *ℤ (negsuc n >> 15)))
+
+module _ (x : ℤ) (h : long-range x ≡ true) where
+  -- the high part of 31 bits is a word
+  pub high-word : SFits w16 (x >> 15)
+  high-word = omega (zar, range-is 1073741824 1073741823 x h, shr-is x 32768 (omega arith))
+
+  -- so no bit of it is lost
+  pub msp-plain : msp x ≡ x >> 15
+  msp-plain = keep-plain high-word
+
+  -- and the low part is what is left, from 0 to 32767
+  pub lsp-plain : lsp x ≡ pos (modulo x 32768)
+  lsp-plain =
+      let q = x >> 15 in
+      let y = q *ℤ pos 32768 in
+      let r = pos (modulo x 32768) in
+      let b : modulo x 32768 < 32768 = modulo-below x (omega arith) in
+      let e : up w32 q 15 ≡ y = keep-plain (omega (zar, know high-word, scale-is q 32768)) in
+      let d : x -ℤ y ≡ r =
+      omega (zar, eq-is _ _ (parts x), mul-is (pos 32768) q, scale-is q 32768, add-is r (pos 32768 *ℤ q), minus-is x y)
+      in
+      let f : SFits w32 (x -ℤ y) = rw d (omega zar) in
+      rw (msp-plain, e, minus-plain x y f, d) (keep-plain (omega zar))
+
+  -- the product of the high part, doubled and halved
+  high-product : L-mult (x >> 15) (pos 32735) >> 1 ≡ pos 32735 *ℤ (x >> 15)
+  high-product =
+      let q = x >> 15 in
+      let y = q *ℤ pos 32735 in
+      rw (L-mult-plain q (pos 32735) high-word (omega zar) (omega (arith, know high-word)))
+      (omega (zar, apart y, mul-is (pos 32735) q, scale-is q 32735, add-is y y, shr-is (y +ℤ y) 2 (omega arith)))
+
+  -- the product of the low part, rounded
+  low-product : mult-r (pos (modulo x 32768)) (pos 32735) ≡ decayed (pos (modulo x 32768))
+  low-product =
+      let r = pos (modulo x 32768) in
+      let b : modulo x 32768 < 32768 = modulo-below x (omega arith) in
+      mult-r-plain r (pos 32735) (omega zar) (omega zar) (omega arith) ∙ ap (λ (y : ℤ). (y +ℤ pos 16384) >> 15) (*ℤ-comm r (pos 32735))
+
+  -- added up, and to 31 bits more: the plain product and the plain sum
+  pub recursive-plain : (s : ℤ) → long-range s ≡ true → recursive x s ≡ s +ℤ decayed x
+  unfolding recursive
+  recursive-plain s g =
+      let q = x >> 15 in
+      let r = pos (modulo x 32768) in
+      let p = pos 32735 *ℤ q in
+      let t = decayed r in
+      let b : modulo x 32768 < 32768 = modulo-below x (omega arith) in
+      let e : decayed x ≡ t +ℤ p = ap decayed (parts x) ∙ decayed-shift r q in
+      let s-in = range-is 1073741824 1073741823 s g in
+      let q-in = know high-word in
+      let t-is = decayed-is r in
+      let p-is = mul-is (pos 32735) q in
+      let first = add-is s t in
+      let second = add-is p (s +ℤ t) in
+      rw (lsp-plain, msp-plain, high-product, low-product, plus-plain {w = w32} s t (omega zar), plus-plain {w = w32} p (s +ℤ t) (omega zar), e)
+      (omega (zar, add-is t p, add-is s (t +ℤ p)))

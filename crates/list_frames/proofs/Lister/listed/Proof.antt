@@ -1,0 +1,61 @@
+use mathlib.Core.Path.{_≡_, refl, sym, ap, subst, _∙_}
+use native.Mathlib.Omega.{arith}
+use mathlib.Core.List.{List}
+use lib.IntN.{ℤ, pos}
+use lib.ListN.{length, replicate}
+use borrow.Author.Needs.{needs}
+use Rattle.standard.specs.Files.{file-words}
+use Rattle.encoder.specs.Promise.{Encodes}
+use Rattle.list_frames.specs.Promise.{nothing, limit-keeps, refused-keeps, done-keeps}
+use Rattle.list_frames.proofs.Lister.listed.Statement.{statement}
+use Rattle.list_frames.proofs.Lister.listed.Tie as tie
+
+returns : tie.Need-returns
+unfolding nothing
+returns c =
+    let s = c .before .before in
+    (limit-keeps (s .args .self) (s .args .bytes .now) (s .args .out .now) (omega arith), omega arith)
+
+sop-size : (t : tie.After-samples) → length (t .samples .result) ≡ 160
+sop-size t = search needs
+
+-- what encode answers of the frame
+module _ (t : tie.After-encode) where
+  abbrev start : tie.Start
+  start = t .before .before .before .before .before .before .before
+
+  encodes : Encodes (start .args .self .encoder) (file-words (start .args .bytes .now)) (replicate 76 (pos 0)) (t .encode .result) (t .encode .last .1 .1 .0)
+  encodes =
+      subst (λ (x : List ℤ). Encodes (start .args .self .encoder) x (replicate 76 (pos 0)) (t .encode .result) (t .encode .last .1 .1 .0))
+      (t .before .before .before .samples .ensures) (t .encode .ensures)
+
+  sop-length : length (file-words (start .args .bytes .now)) ≡ 160
+  sop-length = ap length (sym (t .before .before .before .samples .ensures)) ∙ sop-size (t .before .before .before)
+
+returns-2 : tie.Need-returns-2
+unfolding nothing
+returns-2 c =
+    let t = c .before .before .before in
+    let s = start t in
+    (refused-keeps (s .args .self) (s .args .bytes .now) (s .args .out .now) (replicate 76 (pos 0)) _ (t .encode .result) (encodes t) (sop-length t) refl (λ n. omega arith), omega arith)
+
+returns-3 : tie.Need-returns-3
+returns-3 c =
+    let t = c .before .before .before .before .before .before .before .before .before in
+    let s = start t in
+    (done-keeps (s .args .self) (s .args .bytes .now) (s .args .out .now) (replicate 76 (pos 0)) _ (t .encode .result) (encodes t) (sop-length t) refl (omega arith) (omega arith) (c .frame-lines .result) _ (c .frame-lines .ensures .0), c .frame-lines .ensures .1)
+
+pub listed-spec : {M : Type 1} → statement M
+listed-spec =
+    tie.close
+    (tie.spec
+    returns
+    (λ c κs. search needs)
+    (λ c. search needs)
+    (λ c. search needs)
+    (λ c κs. search needs)
+    returns-2
+    (λ c. search needs)
+    (λ c. search needs)
+    (λ c κs. search needs)
+    returns-3)

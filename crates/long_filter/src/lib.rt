@@ -1,0 +1,43 @@
+// 4.2.12, 4.2.18, 4.3.2: the long term predictor: the lag in use, the estimate from the history, and what a sub-frame adds to it.
+ghost use mathlib.Core.Path.{_≡_};
+ghost use mathlib.Core.List.{zipWith};
+ghost use Prim.Native.Nat.{_≤_};
+ghost use lib.ListN.{length};
+ghost use Rattle.standard.specs.Arithmetic.{add};
+ghost use Rattle.standard.specs.LongTerm.{dpp};
+ghost use Rattle.standard.specs.Decoder.{Nr};
+
+// 4.3.2: the received lag, or the remembered one where that is no lag from 40 to 120.
+pub fn used_lag(nrp: i16, ncr: i16) -> i16
+    ensures { λ r. ⌜ r ≡ Nr nrp ncr ⌝ }
+{
+    if ncr < 40 {
+        return nrp;
+    }
+    if 120 < ncr { nrp } else { ncr }
+}
+
+// 4.2.12: the estimate, from the 120 samples before and a gain code. No lag from 40 on reaches what is not there yet.
+pub fn estimate(dp: &[i16], lag: usize, bc: usize) -> [i16; 40]
+    requires { ⌜ (length (now dp) ≡ 120) × ((40 ≤ lag) × (lag ≤ 120)) ⌝ }
+    ensures { λ r. ⌜ r ≡ dpp lag bc (now (dp .entry)) ⌝ }
+{
+    let b = op_tables::gain_qlb(bc);
+    let mut dpp = [0i16; 40];
+    for k in 0..40usize {
+        dpp[k] = op_words::mult_r(b, dp[120 - lag + k]);
+    }
+    dpp
+}
+
+// 4.2.18: the 40 samples that a sub-frame adds to the history, pulses and estimate together.
+pub fn reconstructed(ep: [i16; 40], dpp: [i16; 40], new: &mut [i16])
+    requires { ⌜ length (now new) ≡ 40 ⌝ }
+    ensures { λ _. ⌜ now (new .exit) ≡ zipWith add ep dpp ⌝ }
+{
+    for k in 0..40usize {
+        let pulse = ep[k];
+        let estimate = dpp[k];
+        new[k] = op_words::add(pulse, estimate);
+    }
+}

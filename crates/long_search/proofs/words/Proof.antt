@@ -1,0 +1,47 @@
+-- What is read of a slice of words is a word, so each of them is.
+use Prim.Native.Nat.{ℕ, _-_, _≤_, _<_}
+use mathlib.Core.Logic.{⊎-elim}
+use native.Mathlib.Nat.{eq-or-lt-of-le, le-of-suc-le-suc}
+use native.Mathlib.Numerals.{add-one}
+use native.Mathlib.Omega.{arith}
+use lib.ListN.{length}
+use mir.Syntax.{w16}
+use mir.Val.{SFits}
+use borrow.Author.Needs.{needs, sfits-of}
+use Rattle.standard.specs.Tables.{_at_}
+use Rattle.law_arithmetic.specs.Within.{words-yes}
+use Rattle.long_search.proofs.words.Statement.{statement}
+use Rattle.long_search.proofs.words.Tie as tie
+
+abbrev Inv-loop : tie.InvT-loop
+Inv-loop s k₀ k-end k = (k ≤ length s) × ((j : ℕ) → j < k → SFits w16 (s at j))
+
+abbrev μ-loop : tie.MeasureT-loop
+μ-loop s k₀ k-end k = length s - k
+
+loop-again : tie.Need-loop-again Inv-loop μ-loop
+loop-again c =
+    let t = c .before .before in
+    let f : SFits w16 (t .before .args .s .now at t .loop .k) = sfits-of (c .x .given) in (
+      omega arith,
+      λ j q. ⊎-elim (λ e. rw e f) (t .loop .inv .1 j) (eq-or-lt-of-le (le-of-suc-le-suc (rw add-one at q))),
+    )
+
+returns : tie.Need-returns Inv-loop μ-loop
+returns c =
+    let t = c .before in
+    words-yes (t .before .args .s .now) (λ j h. t .loop .inv .1 j (omega arith))
+
+pub words-spec : {M : Type 1} → statement M
+words-spec =
+    tie.close
+    (tie.spec
+    Inv-loop
+    μ-loop
+    (λ c. (omega arith, λ j h. absurd (omega arith)))
+    (λ c. search needs)
+    (λ c. search needs)
+    (λ c. search needs)
+    (λ c. omega arith)
+    loop-again
+    returns)

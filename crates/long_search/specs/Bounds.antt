@@ -1,0 +1,213 @@
+-- 01, sums (c) and (d): d is scaled to within 512, the sum at each lag and the power are within 1342177280.
+use Prim.Native.Nat.{ℕ, _+_, _*_, _-_, _^_, _<_, _≤_}
+use mathlib.Core.Path.{_≡_, refl, sym, ap, _∙_}
+use mathlib.Core.Bool.{true, false, cond}
+use mathlib.Core.List.{List, map, zipWith, foldl}
+use mathlib.Core.Logic.{⊎-elim}
+use native.Mathlib.Omega.{arith}
+use native.Mathlib.Nat.{mul-le-mul-left, lt-of-mul-lt-mul-right}
+use lib.IntN.{ℤ, pos, negsuc, _+ℤ_, _*ℤ_, natAbs}
+use lib.ListN.{length, drop, length-map}
+use lib.Pow.{pow-add, pow-mono}
+use lib.Signed.{ltZ}
+use mir.Syntax.{w16, w32}
+use mir.Val.{SFits}
+use borrow.Author.Tests.{le-leb, eqb-false}
+use Rattle.math_integers.specs.Halves.{P, N, zar, know, apart, abs-is, le-or-lt, either}
+use Rattle.math_integers.specs.Sums.{add-is, scale-is, minus-is}
+use Rattle.math_lists.specs.Every.{every, every-at, every-take, every-drop, every-places}
+use Rattle.math_lists.specs.First.{by-cond}
+use Rattle.math_lists.specs.Steps.{fold-keeps}
+use Rattle.math_lists.specs.Tab.{map-at, zip-at, zip-length}
+use Rattle.standard.specs.Arithmetic.{is-zero, within, up, _>>_, shl, shr, sub, norm, peak, L-mult, L-sum, L-squares}
+use Rattle.standard.specs.Tables.{_at_}
+use Rattle.standard.specs.LongTerm.{back, scal, correlations, L-power}
+use Rattle.law_arithmetic.specs.Clip.{abs-clip, minus-clip}
+use Rattle.law_arithmetic.specs.Norm.{Normal, normal, norm-exact}
+use Rattle.law_arithmetic.specs.Shift.{down-in, shr-right}
+use Rattle.law_arithmetic.specs.Within.{within-yes, word, word-is}
+use Rattle.law_fields.specs.Amplitudes.{peak-halves, peak-up, peak-covers}
+use Rattle.law_lengths.specs.Subframes.{Lag, back-length}
+use Rattle.op_sums.specs.Room.{at-most, square-in, L-sum-steps, L-sum-plain, L-sum-in}
+use Rattle.long_search.specs.Search.{scaled, correlated-at, product-small}
+
+-- ---- the scaling of d
+
+-- 6 less a number of shifts, not below 0
+six-less : (n : ℕ) → cond (ltZ (pos 6) (pos n)) (pos 0) (sub (pos 6) (pos n)) ≡ pos (6 - n)
+six-less n =
+    by-cond (λ x. x ≡ pos (6 - n)) (ltZ (pos 6) (pos n)) (λ h. omega zar)
+    (λ h. omega (zar, minus-clip w16 (pos 6) (pos n), minus-is (pos 6) (pos n), apart (sub (pos 6) (pos n))))
+
+module _ (d : List ℤ) where
+  -- where norm finds it above 0, if dmax is not 0
+  pub dmax-above : is-zero (peak d) ≡ false → ltZ (pos 0) (up w32 (peak d) 16) ≡ true
+  dmax-above e =
+      let m : natAbs (peak d) ≡ 0 → ⊥ = eqb-false (natAbs (peak d)) 0 e in
+      rw (peak-up d) (omega (zar, peak-halves d, abs-is (peak d), scale-is (peak d) 65536))
+
+  -- the shifts that bring dmax to the top of a word, 0 where dmax is 0
+  record Shifts : Type 0 where
+    count : ℕ
+    is : cond (is-zero (peak d)) (pos 0) (norm (up w32 (peak d) 16)) ≡ pos count
+    stays : P (peak d) * 2 ^ count < 32768
+
+  none : is-zero (peak d) ≡ true → Shifts
+  none e = record { count = 0; is = rw e; stays = omega (arith, peak-halves d) }
+
+  some : is-zero (peak d) ≡ false → Shifts
+  some e =
+      let z = peak d *ℤ pos 65536 in
+      let s = scale-is (peak d) 65536 in
+      let n : Normal z = normal z (rw (peak-up d) at (dmax-above e)) (omega (zar, peak-halves d)) in
+      let l : natAbs z ≡ P (peak d) * 65536 = omega (arith, peak-halves d, abs-is z) in
+      record { count = n .shifts; is = rw (e, peak-up d) (n .is); stays = omega (arith, rw l at (n .stays)) }
+
+  -- scal d is a count from 0 to 6, by which dmax comes below 512
+  record Scaling : Type 0 where
+    count : ℕ
+    is : scal d ≡ pos count
+    most : count ≤ 6
+    below : P (peak d) < 512 * 2 ^ count
+
+  scaling : Scaling
+  unfolding scal
+  scaling =
+      let s : Shifts = ⊎-elim none some (either (is-zero (peak d))) in
+      let n = s .count in
+      record {
+        count = 6 - n;
+        is = rw (s .is) (six-less n);
+        most = omega arith;
+        below =
+            ⊎-elim
+            (λ (l : n ≤ 6).
+            let e : 6 ≡ 6 - n + n = omega arith in
+            let p : 64 ≡ 2 ^ (6 - n) * 2 ^ n = ap (λ (k : ℕ). 2 ^ k) e ∙ pow-add 2 (6 - n) n in
+            lt-of-mul-lt-mul-right (2 ^ n) (omega (arith, s .stays)))
+            (λ (l : 6 < n).
+            let e : 6 - n ≡ 0 = omega arith in
+            rw e (omega (arith, s .stays, mul-le-mul-left (P (peak d)) (pow-mono {i = 7} l))))
+            (le-or-lt n 6);
+      }
+
+  -- scal d is from 0 to 6, so 4.2.11's right shifts by scal d and by 6 - scal d are never left ones
+  pub scal-range : (within (pos 0) (pos 6) (scal d) ≡ true) × (within (pos 0) (pos 6) (sub (pos 6) (scal d)) ≡ true)
+  scal-range =
+      let n = scaling .count in
+      let m = scaling .most in
+      let z = sub (pos 6) (pos n) in
+      let e : (P z ≡ 6 - n) × (N z ≡ 0) = omega (arith, minus-clip w16 (pos 6) (pos n), minus-is (pos 6) (pos n), apart z) in
+      rw (scaling .is) (within-yes (pos 0) (pos 6) (pos n) (omega zar) (omega zar), within-yes (pos 0) (pos 6) z (omega zar) (omega zar))
+
+  -- and by scal d each word of d comes within 512
+  pub scal-small : (k : ℕ) → k < length d → SFits w16 (d at k) → natAbs (shr w16 (d at k) (scal d)) ≤ 512
+  scal-small k h f =
+      let x = d at k in
+      let n = scaling .count in
+      let c = peak-covers d k h in
+      let m : natAbs x ≤ 512 * 2 ^ n = omega (zar, know f, peak-halves d, abs-clip x, scaling .below) in
+      let (p, q) = down-in x n 512 (omega (arith, abs-is x)) (omega (arith, abs-is x)) in
+      rw (scaling .is, shr-right w16 x (pos n) (omega zar), abs-is (x >> n)) (omega (arith, apart (x >> n)))
+
+-- ---- the sum at each lag
+
+-- the words of dp at a lag
+back-word : (lag : ℕ) (dp : List ℤ) (i : ℕ) → every word dp ≡ true → i < length (back lag dp) → SFits w16 (back lag dp at i)
+unfolding back
+back-word lag dp i ws h =
+    word-is (back lag dp at i) (every-at word (back lag dp) i (pos 0) (every-take word 40 (drop (120 - lag) dp) (every-drop word (120 - lag) dp ws)) h)
+
+-- for all words d and dp of the lengths that 4.2.11 has, and each lag
+module _ (d dp : List ℤ) (ds : every word d ≡ true) (dps : every word dp ≡ true) (m : length d ≡ 40) (n : length dp ≡ 120)
+    (lag : ℕ) (l : Lag lag) where
+  -- d, scaled, is within 512
+  scaled-small : every (at-most 512) (scaled d) ≡ true
+  scaled-small = every-places (at-most 512) (scaled d) (pos 0)
+      (λ i h. let g : i < length d = rw length-map at h in
+      rw (map-at (λ x. shr w16 x (scal d)) d i (pos 0) (pos 0) g)
+      (le-leb _ 512 (scal-small d i g (word-is (d at i) (every-at word d i (pos 0) ds g)))))
+
+  scaled-length : length (scaled d) ≡ 40
+  scaled-length = length-map d _ ∙ m
+
+  same : length (scaled d) ≡ length (back lag dp)
+  same = scaled-length ∙ sym (back-length lag dp l n)
+
+  each : (i : ℕ) → i < length (scaled d) → natAbs (scaled d at i *ℤ back lag dp at i) ≤ 16777216
+  each i h = product-small (scaled d) (back lag dp at i) i scaled-small h (back-word lag dp i dps (omega (arith, same)))
+
+  entry : correlations d dp at (lag - 40) ≡ L-sum (pos 0) (scaled d) (back lag dp)
+  unfolding correlations
+  entry =
+      let e : 40 + (lag - 40) ≡ lag = omega (arith, l .least) in
+      correlated-at (scaled d) dp (lag - 40) (omega (arith, l .most)) ∙ ap (λ (k : ℕ). L-sum (pos 0) (scaled d) (back k dp)) e
+
+  fits : length (scaled d) * 16777216 < 1073741824
+  fits = omega (arith, scaled-length)
+
+  -- the sum at each lag is within 1342177280
+  pub correlation-in : natAbs (correlations d dp at (lag - 40)) ≤ 1342177280
+  correlation-in = rw entry (omega (arith, scaled-length, L-sum-in (scaled d) (back lag dp) 16777216 same each fits))
+
+  -- and is the plain sum: no step meets its limit
+  pub correlation-steps : correlations d dp at (lag - 40) ≡ foldl _+ℤ_ (pos 0) (zipWith L-mult (scaled d) (back lag dp))
+  correlation-steps = entry ∙ L-sum-steps (scaled d) (back lag dp) 16777216 same each fits
+
+-- ---- the power
+
+-- a square is not negative
+square-above : (x : ℤ) → N (x *ℤ x) ≡ 0
+square-above (pos n) = refl
+square-above (negsuc n) = refl
+
+-- nor is a sum of squares
+squares-above : (xs : List ℤ) → N (foldl _+ℤ_ (pos 0) (zipWith _*ℤ_ xs xs)) ≡ 0
+squares-above xs =
+    fold-keeps _+ℤ_ (zipWith _*ℤ_ xs xs) (pos 0) (pos 0) (λ i s. N s ≡ 0) refl
+    (λ i s h e.
+    let k : i < length xs = omega (arith, zip-length _*ℤ_ xs xs) in
+    let t = zip-at _*ℤ_ xs xs i (pos 0) (pos 0) (pos 0) k k in
+    rw t (omega (arith, add-is s (xs at i *ℤ xs at i), square-above (xs at i))))
+
+-- for all words dp, and each lag
+module _ (dp : List ℤ) (dps : every word dp ≡ true) (n : length dp ≡ 120) (lag : ℕ) (l : Lag lag) where
+  -- dp at the lag, shifted right by 3
+  abbrev shifted : List ℤ
+  shifted = map (λ x. x >> 3) (back lag dp)
+
+  shifted-length : length shifted ≡ 40
+  shifted-length = length-map (back lag dp) _ ∙ back-length lag dp l n
+
+  square-small : (i : ℕ) → i < length shifted → natAbs (shifted at i *ℤ shifted at i) ≤ 16777216
+  square-small i h =
+      let g : i < length (back lag dp) = rw length-map at h in
+      rw (map-at (λ x. x >> 3) (back lag dp) i (pos 0) (pos 0) g) (square-in 3 (back lag dp at i) (omega arith) (back-word lag dp i dps g))
+
+  room : length shifted * 16777216 < 1073741824
+  room = omega (arith, shifted-length)
+
+  -- L_power is from 0 to 1342177280
+  pub power-in : within (pos 0) (pos 1342177280) (L-power lag dp) ≡ true
+  unfolding L-power L-squares
+  power-in =
+      let s = foldl _+ℤ_ (pos 0) (zipWith _*ℤ_ shifted shifted) in
+      let e = L-sum-plain shifted shifted 16777216 refl square-small room in
+      let b = L-sum-in shifted shifted 16777216 refl square-small room in
+      within-yes (pos 0) (pos 1342177280) (L-sum (pos 0) shifted shifted)
+      (rw e (omega (zar, add-is s s, squares-above shifted)))
+      (omega (zar, shifted-length, abs-is (L-sum (pos 0) shifted shifted)))
+
+  -- and is the plain sum: no step meets its limit
+  pub power-steps : L-power lag dp ≡ foldl _+ℤ_ (pos 0) (zipWith L-mult shifted shifted)
+  unfolding L-power L-squares
+  power-steps = L-sum-steps shifted shifted 16777216 refl square-small room
+
+-- ---- the gain
+
+-- where 0 < L_max < L_power, the shifts that normalise both lose nothing
+pub gain-exact : (L-max L-pow : ℤ) → ltZ (pos 0) L-max ≡ true → ltZ L-max L-pow ≡ true → SFits w32 L-pow
+    → (n : Normal L-pow) × (shl w32 L-max (norm L-pow) ≡ L-max *ℤ pos (2 ^ n .shifts)) × (shl w32 L-pow (norm L-pow) ≡ L-pow *ℤ pos (2 ^ n .shifts))
+gain-exact L-max L-pow g h f =
+    let n = normal L-pow (omega (zar, apart L-max, know f)) f in
+    (n, norm-exact n L-max (omega (zar, know f, apart L-max, abs-is L-max)), norm-exact n L-pow (omega arith))

@@ -1,6 +1,0 @@
-use Rattle.integers.specs.Ranges.{zfits}
-use Rattle.longs.proofs.long_word.Statement.{statement}
-use Rattle.longs.proofs.long_word.Tie as tie
-
-pub long-word-spec : {M : Type 1} → statement M
-long-word-spec = tie.close (tie.spec (λ c. search zfits) (λ c. search zfits))

@@ -1,0 +1,10 @@
+-- What the code's ending stands for.
+use Rattle.lpc_reflection.specs.declared.Ending.{Ending}
+use Rattle.lpc_reflection.specs.declared.Ending.the-variants as Ending-of
+use Rattle.standard.specs.Lpc as lpc
+
+-- each case
+unfoldable pub ended : Ending → lpc.Ending
+ended Ending-of.Silent = lpc.silent
+ended (Ending-of.Stopped n) = lpc.stopped n
+ended Ending-of.Complete = lpc.complete

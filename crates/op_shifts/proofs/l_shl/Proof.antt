@@ -1,0 +1,21 @@
+use borrow.Author.Needs.{needs}
+use mir.Syntax.{w32}
+use Rattle.math_integers.specs.Ranges.{back, res}
+use Rattle.law_arithmetic.specs.Shift.{shl-right, shl-left}
+use Rattle.op_shifts.proofs.l_shl.Statement.{statement}
+use Rattle.op_shifts.proofs.l_shl.Tie as tie
+
+returns : tie.Need-returns
+returns c =
+    let s = c .before .before .before in
+    let n = back (s .fits .n) in
+    cc (back (s .fits .x), n, res (c .down-long), shl-right w32 (s .args .x) (s .args .n) (rw n at (c .before .before .if1 .taken)))
+
+returns-2 : tie.Need-returns-2
+returns-2 c =
+    let s = c .before .before .before in
+    let n = back (s .fits .n) in
+    cc (back (s .fits .x), n, res (c .up-long), shl-left w32 (s .args .x) (s .args .n) (rw n at (c .before .before .if1 .left)))
+
+pub l-shl-spec : {M : Type 1} → statement M
+l-shl-spec = tie.close (tie.spec (λ c κs. search needs) (λ c κs. search needs) (λ c κs. search needs) (λ c κs. search needs) returns returns-2)

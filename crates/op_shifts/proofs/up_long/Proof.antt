@@ -1,0 +1,16 @@
+use mathlib.Core.Path.{sym}
+use native.Mathlib.Omega.{arith}
+use borrow.Author.Needs.{needs}
+use mir.Syntax.{w32}
+use Rattle.law_arithmetic.specs.Shift.{up-bits, up-all}
+use Rattle.op_shifts.proofs.up_long.Statement.{statement}
+use Rattle.op_shifts.proofs.up_long.Tie as tie
+
+returns : tie.Need-returns
+returns c = up-bits w32 (c .before .args .x) (c .before .args .n) (c .before .fits .x)
+
+returns-2 : tie.Need-returns-2
+returns-2 c = sym (up-all w32 (c .before .args .x) (c .before .args .n) (c .before .fits .x) (omega arith))
+
+pub up-long-spec : {M : Type 1} → statement M
+up-long-spec = tie.close (tie.spec (λ c. search needs) (λ c. search needs) returns returns-2)

@@ -1,0 +1,10 @@
+use borrow.Author.Needs.{needs, sfits-of}
+use Rattle.math_integers.specs.Ranges.{back}
+use Rattle.standard.specs.Tables.{A}
+use Rattle.op_tables.specs.Facts.{past-end}
+use Rattle.op_tables.proofs.lar_a.Statement.{statement}
+use Rattle.op_tables.proofs.lar_a.Tie as tie
+
+pub lar-a-spec : {M : Type 1} → statement M
+unfolding A
+lar-a-spec = tie.close (tie.spec (λ c. search needs) (λ c. search needs) (λ c. back (sfits-of (c .result .given))) (λ c. past-end A (c .if1 .left)))

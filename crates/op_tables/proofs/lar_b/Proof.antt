@@ -1,0 +1,10 @@
+use borrow.Author.Needs.{needs, sfits-of}
+use Rattle.math_integers.specs.Ranges.{back}
+use Rattle.standard.specs.Tables.{B}
+use Rattle.op_tables.specs.Facts.{past-end}
+use Rattle.op_tables.proofs.lar_b.Statement.{statement}
+use Rattle.op_tables.proofs.lar_b.Tie as tie
+
+pub lar-b-spec : {M : Type 1} → statement M
+unfolding B
+lar-b-spec = tie.close (tie.spec (λ c. search needs) (λ c. search needs) (λ c. back (sfits-of (c .result .given))) (λ c. past-end B (c .if1 .left)))

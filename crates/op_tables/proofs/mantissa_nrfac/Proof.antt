@@ -1,0 +1,10 @@
+use borrow.Author.Needs.{needs, sfits-of}
+use Rattle.math_integers.specs.Ranges.{back}
+use Rattle.standard.specs.Tables.{NRFAC}
+use Rattle.op_tables.specs.Facts.{past-end}
+use Rattle.op_tables.proofs.mantissa_nrfac.Statement.{statement}
+use Rattle.op_tables.proofs.mantissa_nrfac.Tie as tie
+
+pub mantissa-nrfac-spec : {M : Type 1} → statement M
+unfolding NRFAC
+mantissa-nrfac-spec = tie.close (tie.spec (λ c. search needs) (λ c. search needs) (λ c. back (sfits-of (c .result .given))) (λ c. past-end NRFAC (c .if1 .left)))

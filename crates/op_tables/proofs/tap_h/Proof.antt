@@ -1,0 +1,10 @@
+use borrow.Author.Needs.{needs, sfits-of}
+use Rattle.math_integers.specs.Ranges.{back}
+use Rattle.standard.specs.Tables.{H}
+use Rattle.op_tables.specs.Facts.{past-end}
+use Rattle.op_tables.proofs.tap_h.Statement.{statement}
+use Rattle.op_tables.proofs.tap_h.Tie as tie
+
+pub tap-h-spec : {M : Type 1} → statement M
+unfolding H
+tap-h-spec = tie.close (tie.spec (λ c. search needs) (λ c. search needs) (λ c. back (sfits-of (c .result .given))) (λ c. past-end H (c .if1 .left)))

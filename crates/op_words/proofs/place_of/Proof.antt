@@ -1,0 +1,11 @@
+use Rattle.math_integers.specs.Halves.{zar, know}
+use Rattle.op_words.proofs.place_of.Statement.{statement}
+use Rattle.op_words.proofs.place_of.Tie as tie
+
+pub place-of-spec : {M : Type 1} → statement M
+place-of-spec =
+    tie.close
+    (tie.spec
+    (λ c. omega (zar, know (c .before .fits .n)))
+    (λ c. omega (zar, know (c .before .fits .n)))
+    (λ c. omega (zar, know (c .before .fits .n))))

@@ -1,0 +1,57 @@
+-- 4.2.15: how often a mantissa is doubled until it is above 7, and what exponent and mantissa come of a code.
+use Prim.Native.Nat.{ℕ, suc, _*_, _-_, _^_, _<_, _≤_}
+use mathlib.Core.Path.{_≡_, refl, sym}
+use mathlib.Core.Bool.{Bool, true}
+use mathlib.Core.Logic.{⊎-elim}
+use native.Mathlib.Nat.{mul-le-mul-left}
+use native.Mathlib.Omega.{arith}
+use lib.Dec.{leb}
+use lib.IntN.{ℤ, pos, _-ℤ_, natAbs}
+use lib.Pow.{pow-mono}
+use borrow.Author.Tests.{leb-true, le-leb, lt-leb}
+use Rattle.math_integers.specs.Halves.{P, N, le-or-lt, abs-is}
+use Rattle.math_integers.specs.Sums.{minus-is}
+use Rattle.math_lists.specs.First.{by-cond, first, first-le, first-holds, first-unique}
+use Rattle.standard.specs.Rpe.{mantissa, amplitude}
+use Rattle.standard.specs.House.{fit}
+use Rattle.law_fields.specs.Fit.{fit-is}
+use Rattle.law_fields.specs.Amplitudes.{exp-of}
+
+-- n doublings bring m above 7
+abbrev pub doubled : ℕ → ℕ → Bool
+doubled m n = leb 9 (suc m * 2 ^ n)
+
+module _ (m : ℕ) where
+  -- the least that do, no more than four, are k where k do and one less do not
+  pub doubled-by : (k : ℕ) → k ≤ 4 → (0 < k → suc m * 2 ^ (k - 1) < 9) → (k < 4 → 9 ≤ suc m * 2 ^ k) → k ≡ first (doubled m) 4 0
+  doubled-by k h less most =
+      sym
+      (first-unique (doubled m) 4 0 k (omega arith) (omega arith)
+      (λ j _ g. lt-leb 9 (suc m * 2 ^ j) (omega (arith, less (omega arith), mul-le-mul-left (suc m) (pow-mono {i = j} {j = k - 1} (omega arith)))))
+      (λ g. le-leb 9 (suc m * 2 ^ k) (most g)))
+
+  -- and four always do
+  pub doubled-above : 9 ≤ suc m * 2 ^ first (doubled m) 4 0
+  doubled-above =
+      let n = first (doubled m) 4 0 in
+      ⊎-elim
+      (λ (g : 4 ≤ n). let e : n ≡ 4 = omega (arith, first-le (doubled m) 4 0) in rw e (omega arith))
+      (λ g. leb-true 9 (suc m * 2 ^ n) (first-holds (doubled m) 4 0 g))
+      (le-or-lt 4 n)
+
+-- what comes of a code, from that exponent and from the doublings of the mantissa that it leaves
+pub amplitude-is : (code : ℤ) (e n : ℕ) → let m = natAbs code - 8 * e in
+    e ≡ exp-of (natAbs code) → n ≡ first (doubled m) 4 0 → (amplitude code .exp ≡ pos e -ℤ pos n) × (amplitude code .mant ≡ suc m * 2 ^ n - 9)
+unfolding amplitude mantissa
+amplitude-is code e n h k = rw (k, h) (refl, refl)
+
+-- the exponent of a code is from −4 to 6
+pub exp-range : (code : ℤ) → fit 6 code ≡ true → (P (amplitude code .exp) ≤ 6) × (N (amplitude code .exp) ≤ 4)
+unfolding amplitude mantissa
+exp-range code h =
+    let c = natAbs code in
+    let m = c - 8 * exp-of c in
+    let f = fit-is 6 code h in
+    let u = abs-is code in
+    let e : exp-of c ≤ 6 = by-cond (λ k. k ≤ 6) (leb c 15) (λ _. omega arith) (λ _. omega arith) in
+    omega (arith, first-le (doubled m) 4 0, minus-is (pos (exp-of c)) (pos (first (doubled m) 4 0)))

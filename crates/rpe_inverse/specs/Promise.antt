@@ -1,0 +1,16 @@
+-- exp_and_mant's promise leaves no choice.
+use mathlib.Core.Path.{_≡_, sym, _∙_}
+use Prim.Native.Nat.{ℕ}
+use lib.IntN.{ℤ}
+use Rattle.rpe_inverse.specs.declared.Amplitude.{Amplitude}
+use Rattle.standard.specs.Rpe.{amplitude}
+
+abbrev made : ℤ → ℕ → Amplitude
+made exp mant = record { exp = exp; mant = mant }
+
+-- two answers for one code are equal
+pub one-amplitude : (code : ℤ) (a b : Amplitude)
+    → a .exp ≡ amplitude code .exp → a .mant ≡ amplitude code .mant → b .exp ≡ amplitude code .exp → b .mant ≡ amplitude code .mant → a ≡ b
+one-amplitude code a b p q r s =
+    let parts : made (a .exp) (a .mant) ≡ made (b .exp) (b .mant) = cc (p ∙ sym r, q ∙ sym s) in
+    parts

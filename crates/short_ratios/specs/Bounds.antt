@@ -1,0 +1,56 @@
+-- 4.2.9.2: no coefficient is the least word, so mult_r meets no limit in the lattices.
+use Prim.Native.Nat.{ℕ, _≤_}
+use mathlib.Core.Path.{_≡_}
+use mathlib.Core.Bool.{true}
+use mathlib.Core.List.{List, zipWith}
+use native.Mathlib.Omega.{arith}
+use lib.IntN.{ℤ, pos, _*ℤ_}
+use lib.Signed.{ltZ, leZ}
+use mir.Syntax.{w16}
+use mir.Val.{SFits}
+use Rattle.math_integers.specs.Halves.{P, N, zar}
+use Rattle.math_integers.specs.Sums.{add-is, minus-is, scale-is, shr-is}
+use Rattle.math_lists.specs.First.{by-cond}
+use Rattle.math_lists.specs.Every.{every, every-all, every-map}
+use Rattle.standard.specs.Arithmetic.{_>>_, _<<_, add, abs}
+use Rattle.standard.specs.Tables.{neg}
+use Rattle.standard.specs.Lpc.{with-sign}
+use Rattle.standard.specs.ShortTerm.{from-ratio, rp}
+use Rattle.law_arithmetic.specs.Clip.{plus-clip, minus-clip, abs-clip}
+use Rattle.law_arithmetic.specs.Shift.{keep-plain}
+use Rattle.short_ratios.specs.Stretches.{LARp, rps}
+
+-- from 0 to the greatest word
+abbrev size : ℤ → Type 0
+size z = (P z ≤ 32767) × (N z ≡ 0)
+
+-- the piecewise line makes a size of a number that is not negative
+from-ratio-size : (t : ℤ) → N t ≡ 0 → size (from-ratio t)
+unfolding from-ratio
+from-ratio-size t h = by-cond size (ltZ t (pos 11059)) first (λ _. by-cond size (ltZ t (pos 20070)) (λ _. second) (λ _. third))
+  where
+    first : ltZ t (pos 11059) ≡ true → size (t << 1)
+    first e =
+        let f : SFits w16 (t *ℤ pos 2) = omega (zar, scale-is t 2) in
+        rw (keep-plain f) (omega (zar, scale-is t 2))
+
+    second : size (add t (pos 11059))
+    second = omega (arith, plus-clip w16 t (pos 11059), add-is t (pos 11059))
+
+    third : size (add (t >> 2) (pos 26112))
+    third = omega (arith, plus-clip w16 (t >> 2) (pos 26112), add-is (t >> 2) (pos 26112), shr-is t 4 (omega arith))
+
+-- a coefficient is above the least word
+pub rp-above : (x : ℤ) → leZ (neg 32767) (rp x) ≡ true
+unfolding rp with-sign
+rp-above x =
+    let t = from-ratio (abs x) in
+    let h = from-ratio-size (abs x) (abs-clip x .1) in
+    by-cond (λ z. leZ (neg 32767) z ≡ true) (ltZ x (pos 0))
+    (λ _. omega (zar, minus-clip w16 (pos 0) t, minus-is (pos 0) t))
+    (λ _. omega zar)
+
+-- so is each of a stretch
+pub rps-above : (j : ℕ) (old new : List ℤ) → every (λ z. leZ (neg 32767) z) (rps j old new) ≡ true
+unfolding rps
+rps-above j old new = rw every-map (every-all _ rp-above (zipWith (LARp j) old new))

@@ -1,0 +1,14 @@
+-- The cells that a stretch, or a frame's four, leave are determined by what they are promised to be.
+use mathlib.Core.Path.{_≡_, sym, _∙_}
+use mathlib.Core.List.{List}
+use lib.IntN.{ℤ}
+use Rattle.short_synthesis.specs.declared.Cells.{Cells}
+
+abbrev made : List ℤ → ℤ → Cells
+made v msr = record { v = v; msr = msr }
+
+-- two answers that are promised the same are equal
+pub one-cells : (t : List ℤ × ℤ) (a b : Cells) → a .v ≡ t .0 → a .msr ≡ t .1 → b .v ≡ t .0 → b .msr ≡ t .1 → a ≡ b
+one-cells t a b p q r s =
+    let parts : made (a .v) (a .msr) ≡ made (b .v) (b .msr) = cc (p ∙ sym r, q ∙ sym s) in
+    parts

@@ -1,0 +1,13 @@
+use borrow.Author.Needs.{needs}
+use Rattle.math_integers.specs.Ranges.{back}
+use Rattle.test_agreement.proofs.strayed.Statement.{statement}
+use Rattle.test_agreement.proofs.strayed.Tie as tie
+
+each-beside-requires : tie.Need-each-beside-requires
+each-beside-requires c κs = search needs
+
+returns : tie.Need-returns
+returns c = rw (back (c .before .before .fits .k)) at (c .each-beside .ensures)
+
+pub strayed-spec : {M : Type 1} → statement M
+strayed-spec = tie.close (tie.spec each-beside-requires returns)

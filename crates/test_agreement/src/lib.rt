@@ -1,0 +1,74 @@
+// What is claimed of both ends, tested on the words themselves; and stray bits to try it with.
+ghost use mathlib.Core.Path.{_≡_};
+ghost use mathlib.Core.Bool.{true};
+ghost use mathlib.Core.Logic.{_↔_};
+ghost use Prim.Native.Nat.{_^_, _≤_};
+ghost use lib.IntN.{pos, _+ℤ_, _*ℤ_};
+ghost use lib.ListN.{length};
+ghost use Rattle.math_lists.specs.Every.{every};
+ghost use Rattle.standard.specs.Arithmetic.{within};
+ghost use Rattle.standard.specs.Tables.{neg, _at_};
+ghost use Rattle.standard.specs.Frame.{places};
+ghost use Rattle.standard.specs.LongTerm.{is-lag};
+ghost use Rattle.standard.specs.House.{fit, fits};
+ghost use Rattle.test_agreement.specs.Stray.{stray};
+
+// Whether two rows of words are the same.
+pub fn same(a: &[i16], b: &[i16]) -> bool
+    ensures { λ r. ⌜ (r ≡ true) ↔ (now (a .entry) ≡ now (b .entry)) ⌝ }
+{
+    if a.len() != b.len() {
+        return false;
+    }
+    for i in 0..a.len() {
+        if a[i] != b[i] {
+            return false;
+        }
+    }
+    true
+}
+
+// Whether a lag is from 40 to 120.
+fn lag(nc: i16) -> bool
+    ensures { λ r. ⌜ r ≡ is-lag nc ⌝ }
+{
+    40 <= nc && nc <= 120
+}
+
+// Whether the four lags are from 40 to 120.
+pub fn lags(codewords: &[i16; 76]) -> bool
+    ensures { λ r. ⌜ r ≡ every (λ p. is-lag (now (codewords .entry) at p)) places ⌝ }
+{
+    for n in 0..4usize {
+        if !lag(codewords[8 + 17 * n]) {
+            return false;
+        }
+    }
+    true
+}
+
+// A codeword with k beside the bits of its field.
+fn beside(k: i16, width: u16, c: i16) -> i16
+    requires { ⌜ ((width ≤ 7) × (fit width c ≡ true)) × (within (neg 256) (pos 255) k ≡ true) ⌝ }
+    ensures { λ r. ⌜ r ≡ c +ℤ k *ℤ pos (2 ^ width) ⌝ }
+{
+    c + (k << width)
+}
+
+// Each of 76 codewords so.
+fn each_beside(k: i16, codewords: &mut [i16])
+    requires { ⌜ (length (now codewords) ≡ 76) × ((fits (now codewords) ≡ true) × (within (neg 256) (pos 255) k ≡ true)) ⌝ }
+    ensures { λ _. ⌜ now (codewords .exit) ≡ stray k (now (codewords .entry)) ⌝ }
+{
+    for i in 0..76usize {
+        codewords[i] = beside(k, frame_codewords::field_width(i), codewords[i]);
+    }
+}
+
+// Sets bits beside the valid ones: k times 2 to the power of its width is added to each codeword.
+pub fn strayed(k: i16, codewords: &mut [i16; 76])
+    requires { ⌜ (fits (now codewords) ≡ true) × (within (neg 256) (pos 255) k ≡ true) ⌝ }
+    ensures { λ _. ⌜ now (codewords .exit) ≡ stray k (now (codewords .entry)) ⌝ }
+{
+    each_beside(k, codewords);
+}

@@ -1,0 +1,33 @@
+use lib.IntN.{pos, _+ℤ_}
+use mir.Syntax.{w32}
+use borrow.Author.Needs.{needs}
+use Rattle.math_integers.specs.Halves.{zar, apart, know, mem}
+use Rattle.math_integers.specs.Sums.{add-is, minus-is}
+use Rattle.test_operations.proofs.size.Statement.{statement}
+use Rattle.test_operations.proofs.size.Tie as tie
+
+raised : tie.Need-add-result
+raised c =
+    let n = mem w32 (c .before .args .n) in
+    omega (zar, know (c .before .fits .n), add-is n (pos 1), apart (n +ℤ pos 1))
+
+turned : tie.Need-sub-result
+turned c =
+    let m = mem w32 (c .before .args .n) +ℤ pos 1 in
+    omega (zar, know (c .before .fits .n), know (raised c), add-is (mem w32 (c .before .args .n)) (pos 1), minus-is (pos 0) (mem w32 m))
+
+below : tie.Need-cast-result
+below c =
+    let m = mem w32 (c .before .args .n) +ℤ pos 1 in
+    omega (zar, know (c .before .fits .n), know (raised c), know (turned c), add-is (mem w32 (c .before .args .n)) (pos 1), minus-is (pos 0) (mem w32 m))
+
+bounded : tie.Need-add-result-2
+bounded c =
+    let m = mem w32 (c .before .args .n) +ℤ pos 1 in
+    omega (zar, know (c .before .fits .n), know (raised c), know (turned c), add-is (mem w32 (c .before .args .n)) (pos 1), minus-is (pos 0) (mem w32 m))
+
+above : tie.Need-cast-result-2
+above c = omega (zar, know (c .before .fits .n))
+
+pub size-spec : {M : Type 1} → statement M
+size-spec = tie.close (tie.spec raised turned below bounded above (λ c. search needs) (λ c. search needs))
