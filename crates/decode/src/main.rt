@@ -21,10 +21,10 @@ fn frame(m: Decoder, bytes: &[u8], out: &mut [u8]) -> Decoder
     ensures bytes { λ _. ⌜ now (out .exit) ≡ decoded (memory m) (now (bytes .entry)) .1 ⌝ }
 {
     let mut codewords = [0; 76];
-    io_files::words(bytes, &mut codewords);
+    io_files::from_bytes(bytes, &mut codewords);
     let mut samples = [0; 160];
     let heard = m.decode(&codewords, &mut samples);
-    io_files::bytes(&samples, out);
+    io_files::to_bytes(&samples, out);
     heard.state
 }
 

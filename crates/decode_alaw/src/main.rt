@@ -21,7 +21,7 @@ fn frame(m: Decoder, bytes: &[u8], out: &mut [u8]) -> Decoder
     ensures octets { λ _. ⌜ now (out .exit) ≡ decoded (memory m) (now (bytes .entry)) .1 ⌝ }
 {
     let mut codewords = [0; 76];
-    io_files::words(bytes, &mut codewords);
+    io_files::from_bytes(bytes, &mut codewords);
     let mut octets = [0; 160];
     let heard = m.decode_alaw(&codewords, &mut octets);
     list_text::text(&octets, 0, out);

@@ -21,10 +21,10 @@ fn frame(e: Encoder, bytes: &[u8], out: &mut [u8]) -> Encoder
     ensures bytes { λ _. ⌜ now (out .exit) ≡ encoded (coder e) (now (bytes .entry)) .1 ⌝ }
 {
     let mut samples = [0; 160];
-    io_files::words(bytes, &mut samples);
+    io_files::from_bytes(bytes, &mut samples);
     let mut codewords = [0; 76];
     let coded = e.encode(&samples, &mut codewords);
-    io_files::bytes(&codewords, out);
+    io_files::to_bytes(&codewords, out);
     coded.state
 }
 

@@ -22,7 +22,7 @@ fn frame(e: Encoder, octets: &[u8], out: &mut [u8]) -> Encoder
 {
     let mut codewords = [0; 76];
     let coded = e.encode_alaw(octets, &mut codewords);
-    io_files::bytes(&codewords, out);
+    io_files::to_bytes(&codewords, out);
     coded.state
 }
 

@@ -71,7 +71,7 @@ struct Coded {
     marks: Marks,
 }
 
-fn between(least: i32, most: i32, z: i32) -> bool
+fn within(least: i32, most: i32, z: i32) -> bool
     ensures { λ r. ⌜ r ≡ within least most z ⌝ }
 {
     least <= z && z <= most
@@ -83,7 +83,7 @@ fn sound(e: Encoder) -> bool
 {
     let z1 = e.z1 as i32;
     let centre = z1 * 32768;
-    between(-16384, 16380, z1) && between(centre - 536740337, centre + 536871409, e.l_z2)
+    within(-16384, 16380, z1) && within(centre - 536740337, centre + 536871409, e.l_z2)
 }
 
 // 02, W-203: a lag is found when some lag had a positive sum.

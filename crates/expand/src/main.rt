@@ -12,7 +12,7 @@ fn expand(octets: &[u8], samples: &mut [i16], out: &mut [u8])
     ensures { λ _. ⌜ now (out .exit) ≡ file-bytes (alaw-samples (now (octets .entry))) ⌝ }
 {
     pcm_alaw::samples(octets, samples);
-    io_files::bytes(samples, out);
+    io_files::to_bytes(samples, out);
 }
 
 // What has come is expanded and written; whether there may be more.

@@ -12,7 +12,7 @@ use Rattle.math_integers.specs.Halves.{le-or-lt}
 use Rattle.math_lists.specs.Every.{every, every-at}
 use Rattle.math_lists.specs.Tab.{tab}
 use Rattle.math_lists.specs.For.{tab-each}
-use Rattle.standard.specs.Tables.{LARc-bits}
+use Rattle.standard.specs.Tables.{LARc-widths}
 use Rattle.op_tables.specs.Facts.{past-end}
 use Rattle.standard.specs.Frame.{sub-widths, widths}
 
@@ -23,16 +23,16 @@ below t b e i =
     (le-or-lt (length t) i)
 
 -- no field has more than 7 bits
-pub LARc-most : (i : ℕ) → getD LARc-bits i 0 ≤ 7
-unfolding LARc-bits every
-LARc-most = below LARc-bits 7 refl
+pub LARc-most : (i : ℕ) → getD LARc-widths i 0 ≤ 7
+unfolding LARc-widths every
+LARc-most = below LARc-widths 7 refl
 
 pub sub-most : (i : ℕ) → getD sub-widths i 0 ≤ 7
 unfolding sub-widths every
 sub-most = below sub-widths 7 refl
 
 pub width-most : (i : ℕ) → getD widths i 0 ≤ 7
-unfolding widths LARc-bits sub-widths every flatten
+unfolding widths LARc-widths sub-widths every flatten
 width-most = below widths 7 refl
 
 -- the gain and the grid have 2 bits each
@@ -46,11 +46,11 @@ unfolding sub-widths tab
 pulse-width = tab-each (λ _. 3) (λ i. getD sub-widths i 0) 13 4 refl
 
 -- the first eight fields are those of the ratios
-pub width-first : (i : ℕ) → i < 8 → getD LARc-bits i 0 ≡ getD widths i 0
-unfolding widths LARc-bits tab
-width-first i h = tab-each (λ i. getD LARc-bits i 0) (λ i. getD widths i 0) 8 0 refl i (omega arith) h
+pub width-first : (i : ℕ) → i < 8 → getD LARc-widths i 0 ≡ getD widths i 0
+unfolding widths LARc-widths tab
+width-first i h = tab-each (λ i. getD LARc-widths i 0) (λ i. getD widths i 0) 8 0 refl i (omega arith) h
 
 -- the others are a sub-frame's, four times over
 pub width-later : (i : ℕ) → 8 ≤ i → i < 76 → getD sub-widths ((i - 8) % 17) 0 ≡ getD widths i 0
-unfolding widths LARc-bits sub-widths flatten tab
+unfolding widths LARc-widths sub-widths flatten tab
 width-later = tab-each (λ i. getD sub-widths ((i - 8) % 17) 0) (λ i. getD widths i 0) 68 8 refl

@@ -3,7 +3,7 @@ ghost use mathlib.Core.Path.{_≡_};
 ghost use mathlib.Core.List.{zipWith};
 ghost use Prim.Native.Nat.{_≤_};
 ghost use lib.ListN.{length, getD};
-ghost use Rattle.standard.specs.Tables.{LARc-bits};
+ghost use Rattle.standard.specs.Tables.{LARc-widths};
 ghost use Rattle.standard.specs.Frame.{sub-widths, widths};
 ghost use Rattle.standard.specs.House.{fit, fits};
 ghost use Rattle.law_fields.specs.Valid.{low-bits};
@@ -12,7 +12,7 @@ const LARC_BITS: [u16; 8] = [6, 6, 5, 5, 4, 4, 3, 3];
 
 // Table 5.1a: the bits of LARc[i + 1]; past the end, 0.
 fn larc_width(i: usize) -> u16
-    ensures { λ r. ⌜ r ≡ getD LARc-bits i 0 ⌝ }
+    ensures { λ r. ⌜ r ≡ getD LARc-widths i 0 ⌝ }
 {
     if i < 8 { LARC_BITS[i] } else { 0 }
 }
@@ -58,7 +58,7 @@ fn low_bits(c: i16, width: u16) -> i16
 // The valid bits of the eight ratios.
 pub fn larc_valid(c: &[i16]) -> [i16; 8]
     requires { ⌜ length (now c) ≡ 8 ⌝ }
-    ensures { λ r. ⌜ r ≡ zipWith low-bits LARc-bits (now (c .entry)) ⌝ }
+    ensures { λ r. ⌜ r ≡ zipWith low-bits LARc-widths (now (c .entry)) ⌝ }
 {
     let mut v = [0i16; 8];
     for i in 0..8usize {

@@ -5,7 +5,7 @@ use mathlib.Core.List.{List, map, zipWith, flatten}
 use native.Mathlib.Omega.{arith}
 use lib.IntN.{ℤ}
 use lib.ListN.{length, take, drop, length-drop}
-use Rattle.standard.specs.Tables.{LARc-bits}
+use Rattle.standard.specs.Tables.{LARc-widths}
 use Rattle.standard.specs.Frame.{Subframe, places, sub-widths, widths, valid, sub-received, received}
 use Rattle.standard.specs.Decoder.{sub-decoded}
 use Rattle.math_lists.specs.Scan.{run}
@@ -29,19 +29,19 @@ sub-frames c = map (λ p. sub-frame (take 17 (drop p c))) places
 
 -- and its ratios
 unfoldable pub ratio-words : List ℤ → List ℤ
-ratio-words c = zipWith low-bits LARc-bits (take 8 c)
+ratio-words c = zipWith low-bits LARc-widths (take 8 c)
 
 -- they are the frame that is received
 pub received-is : (c : List ℤ) → received c ≡ record { LARc = ratio-words c; subframes = sub-frames c }
-unfolding received places valid sub-frame sub-frames ratio-words widths sub-widths LARc-bits flatten
+unfolding received places valid sub-frame sub-frames ratio-words widths sub-widths LARc-widths flatten
 received-is c = simp (zip-take, zip-drop)
 
 -- ---- 4.3.1, 4.3.2 of what is received
 
 -- a sub-frame: the history and the lag after it, and the 40 samples that it adds
-unfoldable pub sub-residual : List ℤ → ℤ → List ℤ → (List ℤ × ℤ) × List ℤ
-sub-residual drp nrp c = sub-decoded (drp, nrp) (sub-frame c)
+unfoldable pub sub-reconstructed : List ℤ → ℤ → List ℤ → (List ℤ × ℤ) × List ℤ
+sub-reconstructed drp nrp c = sub-decoded (drp, nrp) (sub-frame c)
 
 -- and the four of a frame
-unfoldable pub residual : List ℤ → ℤ → List ℤ → (List ℤ × ℤ) × List (List ℤ)
-residual drp nrp c = run sub-decoded (drp, nrp) (sub-frames c)
+unfoldable pub frame-reconstructed : List ℤ → ℤ → List ℤ → (List ℤ × ℤ) × List (List ℤ)
+frame-reconstructed drp nrp c = run sub-decoded (drp, nrp) (sub-frames c)

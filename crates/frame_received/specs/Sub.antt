@@ -20,7 +20,7 @@ use Rattle.law_lengths.specs.Subframes.{Lag}
 use Rattle.law_lengths.specs.Decoding.{range-lag, Nr-range}
 use Rattle.law_fields.specs.Fit.{fit-is}
 use Rattle.law_fields.specs.Valid.{low-bits, low-bits-fit}
-use Rattle.frame_received.specs.Received.{sub-frame, sub-residual}
+use Rattle.frame_received.specs.Received.{sub-frame, sub-reconstructed}
 
 -- each field is not wider than it may be
 pub field-fit : (c : List ℤ) (i : ℕ) → length c ≡ 17 → i < 17 → fit (getD sub-widths i 0) (zipWith low-bits sub-widths c at i) ≡ true
@@ -44,8 +44,8 @@ pub sub-steps : (drp : List ℤ) (nrp : ℤ) (c v xmp e d y : List ℤ) (lag : �
     → length c ≡ 17 → is-lag nrp ≡ true → v ≡ zipWith low-bits sub-widths c
     → lag ≡ Nr nrp (v at 0) → xmp ≡ xMp (amplitude (v at 3)) (drop 4 v) → e ≡ ep (P (v at 2)) xmp → d ≡ dpp (P lag) (P (v at 1)) drp
     → y ≡ zipWith add e d
-    → (lag ≡ sub-residual drp nrp c .0 .1) × (y ≡ sub-residual drp nrp c .1)
-unfolding sub-residual sub-frame sub-received sub-decoded reconstructed sub-widths
+    → (lag ≡ sub-reconstructed drp nrp c .0 .1) × (y ≡ sub-reconstructed drp nrp c .1)
+unfolding sub-reconstructed sub-frame sub-received sub-decoded reconstructed sub-widths
 sub-steps drp nrp c v xmp e d y lag h s ev el ex ee ed ey =
     let gain : P (v at 1) ≡ natAbs (v at 1) = rw ev (fit-place 2 _ (field-fit c 1 h (omega arith))) in
     let grid : P (v at 2) ≡ natAbs (v at 2) = rw ev (fit-place 2 _ (field-fit c 2 h (omega arith))) in

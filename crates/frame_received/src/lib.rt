@@ -5,7 +5,7 @@ ghost use mathlib.Core.Bool.{true};
 ghost use mathlib.Core.List.{_++_, flatten};
 ghost use lib.ListN.{length, take, drop};
 ghost use Rattle.standard.specs.LongTerm.{is-lag};
-ghost use Rattle.frame_received.specs.Received.{sub-residual, residual};
+ghost use Rattle.frame_received.specs.Received.{sub-reconstructed, frame-reconstructed};
 
 // The thirteen pulses among a sub-frame's codewords.
 fn pulses(c: [i16; 17]) -> [i16; 13]
@@ -21,8 +21,8 @@ fn pulses(c: [i16; 17]) -> [i16; 13]
 // One sub-frame: the 40 samples after the 120 that stand before them, and the lag in use.
 fn sub_decoded(nrp: i16, c: &[i16], drp: &mut [i16]) -> i16
     requires { ⌜ (length (now c) ≡ 17) × ((length (now drp) ≡ 160) × (is-lag nrp ≡ true)) ⌝ }
-    ensures lag { λ r. ⌜ r ≡ sub-residual (take 120 (now (drp .entry))) nrp (now (c .entry)) .0 .1 ⌝ }
-    ensures samples { λ r. ⌜ now (drp .exit) ≡ take 120 (now (drp .entry)) ++ sub-residual (take 120 (now (drp .entry))) nrp (now (c .entry)) .1 ⌝ }
+    ensures lag { λ r. ⌜ r ≡ sub-reconstructed (take 120 (now (drp .entry))) nrp (now (c .entry)) .0 .1 ⌝ }
+    ensures samples { λ r. ⌜ now (drp .exit) ≡ take 120 (now (drp .entry)) ++ sub-reconstructed (take 120 (now (drp .entry))) nrp (now (c .entry)) .1 ⌝ }
 {
     let v = frame_codewords::sub_valid(c);
     let xmp = rpe_inverse::inverse(v[3], pulses(v));
@@ -40,8 +40,8 @@ fn sub_decoded(nrp: i16, c: &[i16], drp: &mut [i16]) -> i16
 // The four sub-frames, each after what stands there by then; and the last lag in use.
 pub fn decoded(nrp: i16, c: &[i16], drp: &mut [i16]) -> i16
     requires { ⌜ (length (now c) ≡ 76) × ((length (now drp) ≡ 280) × (is-lag nrp ≡ true)) ⌝ }
-    ensures lag { λ r. ⌜ r ≡ residual (take 120 (now (drp .entry))) nrp (now (c .entry)) .0 .1 ⌝ }
-    ensures samples { λ r. ⌜ now (drp .exit) ≡ take 120 (now (drp .entry)) ++ flatten (residual (take 120 (now (drp .entry))) nrp (now (c .entry)) .1) ⌝ }
+    ensures lag { λ r. ⌜ r ≡ frame-reconstructed (take 120 (now (drp .entry))) nrp (now (c .entry)) .0 .1 ⌝ }
+    ensures samples { λ r. ⌜ now (drp .exit) ≡ take 120 (now (drp .entry)) ++ flatten (frame-reconstructed (take 120 (now (drp .entry))) nrp (now (c .entry)) .1) ⌝ }
 {
     let first = sub_decoded(nrp, &c[8..25], &mut drp[0..160]);
     let second = sub_decoded(first, &c[25..42], &mut drp[40..200]);

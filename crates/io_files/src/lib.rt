@@ -39,7 +39,7 @@ fn high(w: i16) -> u8
 }
 
 // The words that the bytes stand for.
-pub fn words(bytes: &[u8], words: &mut [i16])
+pub fn from_bytes(bytes: &[u8], words: &mut [i16])
     requires { ⌜ length (now bytes) ≡ 2 * length (now words) ⌝ }
     ensures { λ _. ⌜ now (words .exit) ≡ file-words (now (bytes .entry)) ⌝ }
 {
@@ -49,7 +49,7 @@ pub fn words(bytes: &[u8], words: &mut [i16])
 }
 
 // The bytes of the words.
-pub fn bytes(words: &[i16], bytes: &mut [u8])
+pub fn to_bytes(words: &[i16], bytes: &mut [u8])
     requires { ⌜ length (now bytes) ≡ 2 * length (now words) ⌝ }
     ensures { λ _. ⌜ now (bytes .exit) ≡ file-bytes (now (words .entry)) ⌝ }
 {

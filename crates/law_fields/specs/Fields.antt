@@ -11,7 +11,7 @@ use Rattle.math_lists.specs.Every.{every, every-cons, every-map}
 use Rattle.math_lists.specs.Scan.{run-every}
 use Rattle.math_lists.specs.Lengths.{sized-length}
 use Rattle.standard.specs.LongTerm.{is-lag}
-use Rattle.standard.specs.Tables.{LARc-bits}
+use Rattle.standard.specs.Tables.{LARc-widths}
 use Rattle.standard.specs.Frame.{Subframe, Frame, sub-words, words, sub-widths, widths}
 use Rattle.standard.specs.Coder.{Coder, analysis, sub-coded, sub-step, frame, coded}
 use Rattle.standard.specs.House.{fit, fits}
@@ -71,11 +71,11 @@ subs-fit (s ∷ ss) h k =
     joined sub-widths (flatten (replicate (length ss) sub-widths)) (sub-words s) (flatten (map sub-words ss)) (sym l) k₀ (subs-fit ss h₁ k₁)
 
 -- and a frame fits where its ratios and its sub-frames do
-pub frame-fits : (f : Frame) → FrameSizes f → all-fit LARc-bits (f .LARc) ≡ true → every sub-fits (f .subframes) ≡ true → fits (words f) ≡ true
-unfolding words widths fits LARc-bits
+pub frame-fits : (f : Frame) → FrameSizes f → all-fit LARc-widths (f .LARc) ≡ true → every sub-fits (f .subframes) ≡ true → fits (words f) ≡ true
+unfolding words widths fits LARc-widths
 frame-fits f s h k =
     let rest = rw (s .subframes) at (subs-fit (f .subframes) (s .pulses) k) in
-    joined LARc-bits _ (f .LARc) (flatten (map sub-words (f .subframes))) (sym (s .LARc)) h rest
+    joined LARc-widths _ (f .LARc) (flatten (map sub-words (f .subframes))) (sym (s .LARc)) h rest
 
 -- ---- what the coder gives
 

@@ -13,7 +13,7 @@ use Rattle.math_lists.specs.Scan.{run-length}
 use Rattle.math_lists.specs.Cut.{cut, cut-count}
 use Rattle.math_lists.specs.Every.{every, every-so, every-map, every-pairs}
 use Rattle.math_lists.specs.Lengths.{sized, sized-yes, sized-length, flatten-sized, cut-sized, pairs-length}
-use Rattle.standard.specs.Tables.{LARc-bits}
+use Rattle.standard.specs.Tables.{LARc-widths}
 use Rattle.standard.specs.Frame.{Subframe, Frame, sub-words, words, places, sub-widths, widths, valid, sub-received, received}
 use Rattle.standard.specs.ShortTerm.{ratios}
 use Rattle.standard.specs.Coder.{Coder, analysis, frame, coded}
@@ -47,7 +47,7 @@ words-length f h =
 
 -- of 76 codewords the valid bits are 76 codewords
 pub valid-length : (c : List ℤ) → length c ≡ 76 → length (valid c) ≡ 76
-unfolding valid widths sub-widths LARc-bits flatten
+unfolding valid widths sub-widths LARc-widths flatten
 valid-length c h = zip-length _ widths c ∙ omega arith
 
 -- and of 17 a sub-frame has thirteen pulses

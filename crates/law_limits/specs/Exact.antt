@@ -12,7 +12,7 @@ use Rattle.math_integers.specs.Halves.{P, N, apart, abs-is, eq-is, zar, know}
 use Rattle.math_integers.specs.Sums.{add-is, minus-is, scale-is, shr-is}
 use Rattle.math_lists.specs.Every.{every}
 use Rattle.standard.specs.Arithmetic.{_>>_, _<<_, up, shl, add, sub, abs}
-use Rattle.standard.specs.Tables.{_at_, B, MIC, MAC, LARc-bits}
+use Rattle.standard.specs.Tables.{_at_, B, MIC, MAC, LARc-widths}
 use Rattle.standard.specs.House.{fit}
 use Rattle.law_arithmetic.specs.Clip.{plus-plain, minus-plain, abs-clip}
 use Rattle.law_arithmetic.specs.Shift.{keep-plain}
@@ -62,13 +62,13 @@ unfolding every B
 B-in = within B 2560 refl
 
 -- 4.2.8: (LARc + MIC) << 10, of a code that fits its field
-pub code-up : (i : ℕ) (larc : ℤ) → i < 8 → fit (getD LARc-bits i 0) larc ≡ true → Exact w16 (add larc (MIC at i)) 10
+pub code-up : (i : ℕ) (larc : ℤ) → i < 8 → fit (getD LARc-widths i 0) larc ≡ true → Exact w16 (add larc (MIC at i)) 10
 code-up i larc h f =
     let m = MIC at i in
     let M = MAC at i in
     let z = larc +ℤ m in
-    let span = eq-is (M -ℤ m) (pos (2 ^ getD LARc-bits i 0 - 1)) (LARc-span i h) in
-    let low = fit-is (getD LARc-bits i 0) larc f in
+    let span = eq-is (M -ℤ m) (pos (2 ^ getD LARc-widths i 0 - 1)) (LARc-span i h) in
+    let low = fit-is (getD LARc-widths i 0) larc f in
     let b : (P z ≤ 31) × (N z ≤ 32) =
     omega (arith, add-is larc m, apart z, minus-is M m, MIC-in i, MAC-in i, abs-is m, abs-is M)
     in

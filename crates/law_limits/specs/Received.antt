@@ -13,7 +13,7 @@ use borrow.Author.Tests.{leb-true}
 use Rattle.math_lists.specs.Every.{every, every-at}
 use Rattle.math_lists.specs.Tab.{map-at, zip-at, zip-drop, zip-replicate}
 use Rattle.standard.specs.Arithmetic.{_>>_, _<<_, add, sub, abs}
-use Rattle.standard.specs.Tables.{_at_, B, MIC, LARc-bits}
+use Rattle.standard.specs.Tables.{_at_, B, MIC, LARc-widths}
 use Rattle.standard.specs.Frame.{sample, Subframe, Frame, places, sub-widths, sub-received, received}
 use Rattle.standard.specs.Rpe.{amplitude}
 use Rattle.standard.specs.House.{fit}
@@ -65,7 +65,7 @@ sub-read c l =
 
 -- all of them, of any 76 codewords
 pub read-shifts : (c : List ℤ) → length c ≡ 76 → ReadShifts (received c)
-unfolding ratio-words sub-frames places LARc-bits sample every
+unfolding ratio-words sub-frames places LARc-widths sample every
 read-shifts c l =
     rw (received-is c)
     (record {
@@ -76,10 +76,10 @@ read-shifts c l =
       truncation = λ sro. sample-word (add sro sro) (plus-fits w16 sro sro);
     })
   where
-    ratio : (i : ℕ) → i < 8 → fit (getD LARc-bits i 0) (ratio-words c at i) ≡ true
+    ratio : (i : ℕ) → i < 8 → fit (getD LARc-widths i 0) (ratio-words c at i) ≡ true
     ratio i h =
         let n : length (take 8 c) ≡ 8 = simp length-take (omega arith) in
-        rw (zip-at low-bits LARc-bits (take 8 c) i 0 (pos 0) (pos 0) h (omega arith)) (low-bits-fit (getD LARc-bits i 0) (take 8 c at i))
+        rw (zip-at low-bits LARc-widths (take 8 c) i 0 (pos 0) (pos 0) h (omega arith)) (low-bits-fit (getD LARc-widths i 0) (take 8 c at i))
 
     sub : (n : ℕ) (z : Subframe) → n < 4 → SubReadShifts (getD (sub-frames c) n z)
     sub n z h =

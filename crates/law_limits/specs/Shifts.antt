@@ -14,7 +14,7 @@ use Rattle.math_integers.specs.Sums.{minus-is}
 use Rattle.math_lists.specs.Tab.{tab-at-zero, map-at}
 use Rattle.math_lists.specs.Every.{every, every-at}
 use Rattle.standard.specs.Arithmetic.{_>>_, _<<_, low, shl, add, sub, mult-r, abs, norm, peak, within}
-use Rattle.standard.specs.Tables.{_at_, neg, B, MIC, LARc-bits}
+use Rattle.standard.specs.Tables.{_at_, neg, B, MIC, LARc-widths}
 use Rattle.standard.specs.Preprocessing.{downscaled}
 use Rattle.standard.specs.Lpc.{r, ratio-codes}
 use Rattle.standard.specs.LongTerm.{scal}
@@ -102,7 +102,7 @@ unfolding norm
 norm-above z = omega zar
 
 -- the codes fit their fields
-code-fits : (c : Coder) (sop : List ℤ) (i : ℕ) → i < 8 → fit (getD LARc-bits i 0) (analysis c sop .LARc at i) ≡ true
+code-fits : (c : Coder) (sop : List ℤ) (i : ℕ) → i < 8 → fit (getD LARc-widths i 0) (analysis c sop .LARc at i) ≡ true
 unfolding analysis ratio-codes
 code-fits c sop i h = rw (tab-at-zero _ 8 i (pos 0) h) (ratio-fits i _ h)
 

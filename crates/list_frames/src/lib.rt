@@ -25,7 +25,7 @@ fn samples(bytes: &[u8; 320]) -> [i16; 160]
     ensures { λ r. ⌜ r ≡ file-words (now (bytes .entry)) ⌝ }
 {
     let mut sop = [0; 160];
-    io_files::words(bytes, &mut sop);
+    io_files::from_bytes(bytes, &mut sop);
     sop
 }
 

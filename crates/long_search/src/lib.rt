@@ -59,7 +59,7 @@ fn weighed(scal: i16, d: &[i16]) -> [i16; 40]
 
 // Each of a slice is a word, which the search has to know before it adds up what two calls gave. To read them
 // is enough, and nothing is left of it once it is compiled.
-fn words(s: &[i16])
+fn each_a_word(s: &[i16])
     ensures { λ _. ⌜ every word (now (s .entry)) ≡ true ⌝ }
 {
     for k in 0..s.len() {
@@ -87,7 +87,7 @@ fn lag_search(wt: &[i16], dp: &[i16]) -> Search
     ensures sum { λ r. ⌜ r .sum ≡ best (correlated (now (wt .entry)) (now (dp .entry))) .sum ⌝ }
     ensures positive { λ r. ⌜ r .positive ≡ ltZ (pos 0) (best (correlated (now (wt .entry)) (now (dp .entry))) .sum) ⌝ }
 {
-    words(dp);
+    each_a_word(dp);
     let last = lasts(wt, dp);
     let mut found = Found { at: 0, sum: 0 };
     for i in 0..81usize {

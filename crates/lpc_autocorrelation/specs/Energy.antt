@@ -47,13 +47,13 @@ squares a = squares-from (pos 0) a ∙ omega (zar, add-is (pos 0) (pos (energy a
 
 -- twice the product of two numbers is no more than their squares
 mean : (a b : ℕ) → 2 * (a * b) ≤ a * a + b * b
-mean a b = ⊎-elim (λ h. up a b h) (λ h. omega (arith, up b a (omega arith))) (le-or-lt a b)
+mean a b = ⊎-elim (λ h. ordered a b h) (λ h. omega (arith, ordered b a (omega arith))) (le-or-lt a b)
   where
     by : (a d : ℕ) → 2 * (a * (a + d)) ≤ a * a + (a + d) * (a + d)
     by a d = omega arith
 
-    up : (a b : ℕ) → a ≤ b → 2 * (a * b) ≤ a * a + b * b
-    up a b h = let e : b ≡ a + (b - a) = omega arith in rw e (by a (b - a))
+    ordered : (a b : ℕ) → a ≤ b → 2 * (a * b) ≤ a * a + b * b
+    ordered a b h = let e : b ≡ a + (b - a) = omega arith in rw e (by a (b - a))
 
 products-from : (s : ℤ) (a b : List ℤ) → 2 * natAbs (foldl _+ℤ_ s (zipWith _*ℤ_ a b)) ≤ 2 * natAbs s + (energy a + energy b)
 unfolding energy zipWith

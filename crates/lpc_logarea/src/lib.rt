@@ -1,6 +1,6 @@
 // 4.2.6, 4.2.7: from the reflection coefficients to the Log.-Area Ratios and their codes.
 ghost use mathlib.Core.Path.{_≡_};
-ghost use Rattle.standard.specs.Lpc.{area-ratio, LAR, between, LARc, ratio-codes};
+ghost use Rattle.standard.specs.Lpc.{area-ratio, LAR, clamped, LARc, ratio-codes};
 
 // 4.2.6: the piecewise line, of a size.
 fn area_ratio(temp: i16) -> i16
@@ -24,8 +24,8 @@ fn lar(r: i16) -> i16
 }
 
 // x, or the end of the range that it has passed.
-fn between(least: i16, most: i16, x: i16) -> i16
-    ensures { λ r. ⌜ r ≡ between least most x ⌝ }
+fn clamped(least: i16, most: i16, x: i16) -> i16
+    ensures { λ r. ⌜ r ≡ clamped least most x ⌝ }
 {
     if most < x {
         most
@@ -46,7 +46,7 @@ fn larc(i: usize, lar: i16) -> i16
     );
     let temp = op_words::add(scaled, 256) >> 9;
     let mic = op_tables::lar_mic(i);
-    op_words::sub(between(mic, op_tables::lar_mac(i), temp), mic)
+    op_words::sub(clamped(mic, op_tables::lar_mac(i), temp), mic)
 }
 
 // LARc[1..8] of r[1..8].

@@ -15,7 +15,7 @@ use Rattle.math_integers.specs.Halves.{P, N, zar, eq-is, apart, le-or-lt}
 use Rattle.math_integers.specs.Sums.{minus-is}
 use Rattle.math_lists.specs.Every.{every, every-at}
 use Rattle.math_lists.specs.Tab.{map-at, zip-at}
-use Rattle.standard.specs.Tables.{_at_, MIC, MAC, FAC, NRFAC, LARc-bits}
+use Rattle.standard.specs.Tables.{_at_, MIC, MAC, FAC, NRFAC, LARc-widths}
 
 -- past its end a table has what is asked for there: 0
 pub past-end : {A : Type 0} {d : A} (t : List A) {i : ℕ} → length t ≤ i → d ≡ getD t i d
@@ -41,19 +41,19 @@ NRFAC-above = passes (leZ (pos 0)) NRFAC refl refl
 
 -- ---- MIC, MAC and the bits of LARc
 
-spans : zipWith _-ℤ_ MAC MIC ≡ map (λ b. pos (2 ^ b - 1)) LARc-bits
-unfolding MAC MIC LARc-bits zipWith
+spans : zipWith _-ℤ_ MAC MIC ≡ map (λ b. pos (2 ^ b - 1)) LARc-widths
+unfolding MAC MIC LARc-widths zipWith
 spans = refl
 
 -- from MIC to MAC there are as many codes as the field has values
-pub LARc-span : (i : ℕ) → i < 8 → MAC at i -ℤ MIC at i ≡ pos (2 ^ getD LARc-bits i 0 - 1)
-unfolding MAC MIC LARc-bits
+pub LARc-span : (i : ℕ) → i < 8 → MAC at i -ℤ MIC at i ≡ pos (2 ^ getD LARc-widths i 0 - 1)
+unfolding MAC MIC LARc-widths
 LARc-span i h =
-    sym (zip-at _-ℤ_ MAC MIC i (pos 0) (pos 0) (pos 0) h h) ∙ (ap (λ (t : List ℤ). t at i) spans ∙ map-at (λ b. pos (2 ^ b - 1)) LARc-bits i 0 (pos 0) h)
+    sym (zip-at _-ℤ_ MAC MIC i (pos 0) (pos 0) (pos 0) h h) ∙ (ap (λ (t : List ℤ). t at i) spans ∙ map-at (λ b. pos (2 ^ b - 1)) LARc-widths i 0 (pos 0) h)
 
 -- so a code between them, once MIC is taken from it, fits its field
-pub LARc-fits : (i : ℕ) (c : ℤ) → i < 8 → leZ (MIC at i) c ≡ true → leZ c (MAC at i) ≡ true → (P (c -ℤ MIC at i) < 2 ^ getD LARc-bits i 0) × (N (c -ℤ MIC at i) ≡ 0)
+pub LARc-fits : (i : ℕ) (c : ℤ) → i < 8 → leZ (MIC at i) c ≡ true → leZ c (MAC at i) ≡ true → (P (c -ℤ MIC at i) < 2 ^ getD LARc-widths i 0) × (N (c -ℤ MIC at i) ≡ 0)
 LARc-fits i c h l g =
     let m = MIC at i in
-    let e = eq-is (MAC at i -ℤ m) (pos (2 ^ getD LARc-bits i 0 - 1)) (LARc-span i h) in
-    omega (zar, minus-is c m, minus-is (MAC at i) m, apart (c -ℤ m), apart (MAC at i -ℤ m), pow-pos (getD LARc-bits i 0))
+    let e = eq-is (MAC at i -ℤ m) (pos (2 ^ getD LARc-widths i 0 - 1)) (LARc-span i h) in
+    omega (zar, minus-is c m, minus-is (MAC at i) m, apart (c -ℤ m), apart (MAC at i -ℤ m), pow-pos (getD LARc-widths i 0))

@@ -10,7 +10,7 @@ use borrow.Author.Tests.{ltb-true, lt-ltb, eqb-true}
 use Rattle.math_lists.specs.Every.{every, every-only, every-map}
 use Rattle.math_lists.specs.Tab.{zip-replicate}
 use Rattle.math_lists.specs.Cut.{sum}
-use Rattle.standard.specs.Tables.{LARc-bits}
+use Rattle.standard.specs.Tables.{LARc-widths}
 use Rattle.standard.specs.Frame.{sub-widths, widths}
 use Rattle.standard.specs.Packed.{bits, frame-bits, packed, byte-bits, unpacked, spare}
 use Rattle.standard.specs.House.{fit, fits}
@@ -59,18 +59,18 @@ codeword o =
 
 -- there are 76 fields
 pub field-count : length widths ≡ 76
-unfolding widths sub-widths LARc-bits flatten
+unfolding widths sub-widths LARc-widths flatten
 field-count = refl
 
 -- of 260 bits
 pub bit-count : sum widths ≡ 260
-unfolding widths sub-widths LARc-bits flatten
+unfolding widths sub-widths LARc-widths flatten
 bit-count = refl
 
 -- ---- the packed frame is a layout: nothing before the fields, four zeros after them, in 33 bytes of eight bits
 
-abbrev words : Code ℤ
-words = codeword low-first
+abbrev low-codeword : Code ℤ
+low-codeword = codeword low-first
 
 abbrev bytes : Code ℕ
 bytes = number low-first
@@ -84,7 +84,7 @@ zeros = replicate 4 0
 room : 0 + (sum widths + 4) ≡ 264
 room = rw bit-count
 
-packed-is : (c : List ℤ) → packed c ≡ laid words bytes widths eights [] zeros c
+packed-is : (c : List ℤ) → packed c ≡ laid low-codeword bytes widths eights [] zeros c
 unfolding packed frame-bits
 packed-is c = refl
 
@@ -93,7 +93,7 @@ pub byte-bits-is : (b : List ℕ) → length b ≡ 33 → byte-bits b ≡ joined
 unfolding byte-bits
 byte-bits-is b h = rw (zip-replicate bits 8 33 b h)
 
-unpacked-is : (b : List ℕ) → length b ≡ 33 → unpacked b ≡ taken words bytes widths eights [] zeros b
+unpacked-is : (b : List ℕ) → length b ≡ 33 → unpacked b ≡ taken low-codeword bytes widths eights [] zeros b
 unfolding unpacked
 unpacked-is b h = rw (byte-bits-is b h)
 
@@ -119,35 +119,35 @@ module _ (c : List ℤ) (h : length c ≡ 76) where
   -- each byte is below 256
   pub packed-bytes : every (λ x. ltb x 256) (packed c) ≡ true
   unfolding every
-  packed-bytes = rw (← bytes-fit (packed c) (packed-length c), packed-is c) (laid-fit words bytes widths eights [] zeros room refl refl c fields)
+  packed-bytes = rw (← bytes-fit (packed c) (packed-length c), packed-is c) (laid-fit low-codeword bytes widths eights [] zeros room refl refl c fields)
 
   -- the spare bits are 0
   pub packed-spare : every (eqb 0) (spare (packed c)) ≡ true
   unfolding every
-  packed-spare = rw (spare-is (packed c) (packed-length c), packed-is c, laid-back words bytes widths eights [] zeros room refl refl c fields)
+  packed-spare = rw (spare-is (packed c) (packed-length c), packed-is c, laid-back low-codeword bytes widths eights [] zeros room refl refl c fields)
 
   -- codewords that fit are unpacked as they were
   pub unpack-packed : fits c ≡ true → unpacked (packed c) ≡ c
   unfolding every fits
   unpack-packed e =
-      rw (unpacked-is (packed c) (packed-length c), packed-is c) (taken-laid words bytes widths eights [] zeros room refl refl c fields e)
+      rw (unpacked-is (packed c) (packed-length c), packed-is c) (taken-laid low-codeword bytes widths eights [] zeros room refl refl c fields e)
 
 -- ---- unpacking
 
 -- there are 76 codewords
 pub unpacked-length : (b : List ℕ) → length (unpacked b) ≡ 76
 unfolding unpacked
-unpacked-length b = parted-count words widths (byte-bits b) ∙ field-count
+unpacked-length b = parted-count low-codeword widths (byte-bits b) ∙ field-count
 
 module _ (b : List ℕ) (h : length b ≡ 33) where
   -- each codeword fits
   pub unpacked-fits : fits (unpacked b) ≡ true
   unfolding fits
-  unpacked-fits = rw (unpacked-is b h) (taken-fit words bytes widths eights [] zeros room b h)
+  unpacked-fits = rw (unpacked-is b h) (taken-fit low-codeword bytes widths eights [] zeros room b h)
 
   -- four bits are spare
   pub spare-length : length (spare b) ≡ 4
-  spare-length = rw (spare-is b h) (back-length words bytes widths eights [] zeros room b h)
+  spare-length = rw (spare-is b h) (back-length low-codeword bytes widths eights [] zeros room b h)
 
   -- bytes with spare zeros are packed as they were
   pub pack-unpacked : every (λ x. ltb x 256) b ≡ true → every (eqb 0) (spare b) ≡ true → packed (unpacked b) ≡ b
@@ -155,7 +155,7 @@ module _ (b : List ℕ) (h : length b ≡ 33) where
       let f = rw (← bytes-fit b h) at e in
       let z = rw spare-length at (every-only (eqb 0) 0 (λ x t. sym (eqb-true 0 x t)) (spare b) s) in
       rw (packed-is (unpacked b), unpacked-is b h)
-      (laid-taken words bytes widths eights [] zeros room b h f refl (rw (← spare-is b h) z))
+      (laid-taken low-codeword bytes widths eights [] zeros room b h f refl (rw (← spare-is b h) z))
 
 -- frames that fit and are packed alike are equal
 pub packed-equal : (c d : List ℤ) → length c ≡ 76 → length d ≡ 76 → fits c ≡ true → fits d ≡ true → packed c ≡ packed d → c ≡ d

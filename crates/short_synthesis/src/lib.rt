@@ -172,7 +172,7 @@ fn offsets(r: Line) -> Line
     }
 }
 
-fn up(l: Line) -> Line
+fn with_bias(l: Line) -> Line
     requires { ⌜ Each word l ⌝ }
     ensures { λ r. ⌜ base r ≡ l ⌝ }
 {
@@ -188,7 +188,7 @@ fn up(l: Line) -> Line
     }
 }
 
-fn down(l: Line) -> Line
+fn without_bias(l: Line) -> Line
     requires { ⌜ Each word (base l) ⌝ }
     ensures { λ r. ⌜ r ≡ base l ⌝ }
 {
@@ -342,8 +342,8 @@ fn lattice(r: Line, c: Line, v: Line, wt: i32) -> Line
         let l = p.line;
         return same(l);
     }
-    let z = limited(same(r), down(v), wt - 32768);
-    up(z)
+    let z = limited(same(r), without_bias(v), wt - 32768);
+    with_bias(z)
 }
 
 // 4.3.5: sro[k], which is also the next msr. What is taken off is 32768 * 32768 less the rounding term: after the shift
@@ -380,7 +380,7 @@ pub fn stretch(s: Cells, rrp: [i16; 8], wt: &[i16], srop: &mut [i16]) -> Cells
     let before = s.v;
     let rp = spread(rrp);
     let c = offsets(rp);
-    let mut v = up(spread(before));
+    let mut v = with_bias(spread(before));
     let mut msr = s.msr as i32;
     for k in 0..wt.len() {
         v = lattice(rp, c, v, wt[k] as i32 + 32768);
@@ -391,7 +391,7 @@ pub fn stretch(s: Cells, rrp: [i16; 8], wt: &[i16], srop: &mut [i16]) -> Cells
         srop[k] = upscaled(srop[k]);
     }
     Cells {
-        v: gathered(down(v)),
+        v: gathered(without_bias(v)),
         msr: msr as i16,
     }
 }

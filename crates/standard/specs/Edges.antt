@@ -15,8 +15,8 @@ use Rattle.standard.specs.Decoder.{de-emphasis, srop}
 use Rattle.standard.specs.Opened.{opened}
 
 -- numbers, and numbers below 0
-abbrev up : List ℕ → List ℤ
-up = map pos
+abbrev above : List ℕ → List ℤ
+above = map pos
 
 abbrev below : List ℕ → List ℤ
 below = map neg
@@ -26,18 +26,18 @@ pub record Coding : Type 0 where
   pub offset-rounds : offset (record { z1 = pos 0; L-z2 = pos 16401 }) (pos 0) ≡ (record { z1 = pos 0; L-z2 = pos 16384 }, pos 1)
   pub emphasis-high : emphasis (neg 32768) (pos 32767) .1 ≡ pos 32767
   pub emphasis-low : emphasis (pos 32767) (neg 32768) .1 ≡ neg 32768
-  pub scale-of-samples : map (λ x. scalauto (x ∷ [])) (up (0 ∷ 1 ∷ 2047 ∷ 2048 ∷ 32767 ∷ [])) ≡ pos 0 ∷ neg 10 ∷ pos 0 ∷ pos 1 ∷ pos 4 ∷ []
+  pub scale-of-samples : map (λ x. scalauto (x ∷ [])) (above (0 ∷ 1 ∷ 2047 ∷ 2048 ∷ 32767 ∷ [])) ≡ pos 0 ∷ neg 10 ∷ pos 0 ∷ pos 1 ∷ pos 4 ∷ []
   pub recursion-clips : measured 2 (pos 32767) (pos 16384 ∷ neg 32768 ∷ []) (pos 32767 ∷ []) ≡ neg 16384 ∷ []
-  pub ratio : map LAR (up (22116 ∷ 22119 ∷ 31129 ∷ 31130 ∷ 32767 ∷ [])) ≡ up (11058 ∷ 11060 ∷ 20070 ∷ 20072 ∷ 26620 ∷ [])
+  pub ratio : map LAR (above (22116 ∷ 22119 ∷ 31129 ∷ 31130 ∷ 32767 ∷ [])) ≡ above (11058 ∷ 11060 ∷ 20070 ∷ 20072 ∷ 26620 ∷ [])
   pub ratio-below : map LAR (below (1 ∷ 32768 ∷ [])) ≡ pos 0 ∷ neg 26620 ∷ []
-  pub most-codes : tab (λ i. LARc i (pos 32767)) 0 8 ≡ up (63 ∷ 63 ∷ 31 ∷ 31 ∷ 15 ∷ 15 ∷ 7 ∷ 7 ∷ [])
+  pub most-codes : tab (λ i. LARc i (pos 32767)) 0 8 ≡ above (63 ∷ 63 ∷ 31 ∷ 31 ∷ 15 ∷ 15 ∷ 7 ∷ 7 ∷ [])
   pub least-codes : tab (λ i. LARc i (neg 32768)) 0 8 ≡ replicate 8 (pos 0)
-  pub some-codes : tab (λ i. LARc i (neg 1000)) 0 8 ≡ up (31 ∷ 31 ∷ 19 ∷ 10 ∷ 7 ∷ 4 ∷ 3 ∷ 1 ∷ [])
-  pub codes-round : map (LARc 0) (up (409 ∷ 410 ∷ [])) ≡ up (32 ∷ 33 ∷ [])
-  pub codes-round-down : map (LARc 0) (below (2868 ∷ [])) ≡ up (28 ∷ [])
-  pub scale-of-d : map (λ x. scal (x ∷ [])) (up (0 ∷ 511 ∷ 512 ∷ 32767 ∷ [])) ≡ up (6 ∷ 0 ∷ 1 ∷ 6 ∷ [])
-  pub levels-met : map (λ R. gain-level R (pos 16384)) (up (3277 ∷ 8192 ∷ 13107 ∷ [])) ≡ 0 ∷ 1 ∷ 2 ∷ []
-  pub levels-passed : map (λ R. gain-level R (pos 16384)) (up (3278 ∷ 8193 ∷ 13108 ∷ [])) ≡ 1 ∷ 2 ∷ 3 ∷ []
+  pub some-codes : tab (λ i. LARc i (neg 1000)) 0 8 ≡ above (31 ∷ 31 ∷ 19 ∷ 10 ∷ 7 ∷ 4 ∷ 3 ∷ 1 ∷ [])
+  pub codes-round : map (LARc 0) (above (409 ∷ 410 ∷ [])) ≡ above (32 ∷ 33 ∷ [])
+  pub codes-round-down : map (LARc 0) (below (2868 ∷ [])) ≡ above (28 ∷ [])
+  pub scale-of-d : map (λ x. scal (x ∷ [])) (above (0 ∷ 511 ∷ 512 ∷ 32767 ∷ [])) ≡ above (6 ∷ 0 ∷ 1 ∷ 6 ∷ [])
+  pub levels-met : map (λ R. gain-level R (pos 16384)) (above (3277 ∷ 8192 ∷ 13107 ∷ [])) ≡ 0 ∷ 1 ∷ 2 ∷ []
+  pub levels-passed : map (λ R. gain-level R (pos 16384)) (above (3278 ∷ 8193 ∷ 13108 ∷ [])) ≡ 1 ∷ 2 ∷ 3 ∷ []
   pub level-unrounded : gain-level (pos 3278) (pos 16387) ≡ 1
   pub gain-none : bc (pos 0) (pos 5) ≡ 0
   pub gain-most : bc (pos 5) (pos 5) ≡ 3
@@ -80,10 +80,10 @@ coding = record {
 
 pub record Decoding : Type 0 where
   pub least-ratios : ratios (replicate 8 (pos 0)) ≡ below (26214 ∷ 26214 ∷ 16384 ∷ 9012 ∷ 9832 ∷ 4916 ∷ 6554 ∷ 3278 ∷ [])
-  pub most-ratios : ratios (up (63 ∷ 63 ∷ 31 ∷ 31 ∷ 15 ∷ 15 ∷ 7 ∷ 7 ∷ [])) ≡ up (25394 ∷ 25394 ∷ 9012 ∷ 16384 ∷ 8190 ∷ 11468 ∷ 7206 ∷ 9718 ∷ [])
+  pub most-ratios : ratios (above (63 ∷ 63 ∷ 31 ∷ 31 ∷ 15 ∷ 15 ∷ 7 ∷ 7 ∷ [])) ≡ above (25394 ∷ 25394 ∷ 9012 ∷ 16384 ∷ 8190 ∷ 11468 ∷ 7206 ∷ 9718 ∷ [])
   pub stretch-lengths : map (λ t. t .0) stretches ≡ 13 ∷ 14 ∷ 13 ∷ 120 ∷ []
   pub interpolated : map (λ t. t .1 (neg 32768) (pos 32767)) stretches ≡ neg 16385 ∷ neg 1 ∷ pos 16382 ∷ pos 32767 ∷ []
-  pub coefficient : map rp (up (11058 ∷ 11060 ∷ 20069 ∷ 20071 ∷ 32767 ∷ [])) ≡ up (22116 ∷ 22119 ∷ 31128 ∷ 31129 ∷ 32767 ∷ [])
+  pub coefficient : map rp (above (11058 ∷ 11060 ∷ 20069 ∷ 20071 ∷ 32767 ∷ [])) ≡ above (22116 ∷ 22119 ∷ 31128 ∷ 31129 ∷ 32767 ∷ [])
   pub coefficient-below : map rp (below (1 ∷ 32768 ∷ [])) ≡ neg 2 ∷ neg 32767 ∷ []
   pub de-emphasis-high : de-emphasis (pos 32767) (pos 32767) .1 ≡ pos 32767
   pub de-emphasis-low : de-emphasis (neg 32768) (neg 32768) .1 ≡ neg 32768

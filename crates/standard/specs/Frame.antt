@@ -4,7 +4,7 @@ use mathlib.Core.List.{List, [], _∷_, _++_, map, zipWith, flatten}
 use lib.IntN.{ℤ, pos}
 use lib.ListN.{take, drop, replicate}
 use Rattle.standard.specs.Arithmetic.{_>>_, _<<_, modulo}
-use Rattle.standard.specs.Tables.{_at_, LARc-bits}
+use Rattle.standard.specs.Tables.{_at_, LARc-widths}
 
 -- a sample's 13 valid bits; the low 3 are 0
 unfoldable pub sample : ℤ → ℤ
@@ -41,7 +41,7 @@ unfoldable pub sub-widths : List ℕ
 sub-widths = 7 ∷ 2 ∷ 2 ∷ 6 ∷ replicate 13 3
 
 unfoldable pub widths : List ℕ
-widths = LARc-bits ++ flatten (replicate 4 sub-widths)
+widths = LARc-widths ++ flatten (replicate 4 sub-widths)
 
 -- "The decoder uses valid bits only": the low bits of each codeword, as many as its field has
 unfoldable pub valid : List ℤ → List ℤ

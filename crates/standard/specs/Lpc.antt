@@ -104,14 +104,14 @@ LAR = with-sign area-ratio
 -- ---- 4.2.7 Quantization and coding of the Log.-Area Ratios
 
 -- x, or the end of the range from least to most that it has passed
-unfoldable pub between : ℤ → ℤ → ℤ → ℤ
-between least most x = cond (ltZ most x) most (cond (ltZ x least) least x)
+unfoldable pub clamped : ℤ → ℤ → ℤ → ℤ
+clamped least most x = cond (ltZ most x) most (cond (ltZ x least) least x)
 
 -- LARc[i] of LAR[i]
 unfoldable pub LARc : ℕ → ℤ → ℤ
 LARc i lar =
     let temp = add (add (mult (A at i) lar) (B at i)) (pos 256) >> 9 in
-    sub (between (MIC at i) (MAC at i) temp) (MIC at i)
+    sub (clamped (MIC at i) (MAC at i) temp) (MIC at i)
 
 -- LARc[1..8] of r[1..8]
 unfoldable pub ratio-codes : List ℤ → List ℤ

@@ -15,46 +15,46 @@ use Rattle.standard.specs.Answers.{encode, decode, pack, unpack}
 use Rattle.standard.specs.Listing.{text, ending-text, E-line}
 use Rattle.standard.specs.Opened.{opened}
 
-abbrev words : ℕ → List ℤ
-words n = replicate n (pos 0)
+abbrev zeros : ℕ → List ℤ
+zeros n = replicate n (pos 0)
 
 -- home, but for these values
 abbrev pub coder-with : ℤ → ℤ → Coder
-coder-with z1 L-z2 = record { z1 = z1; L-z2 = L-z2; mp = pos 0; LARpp = words 8; u = words 8; dp = words 120 }
+coder-with z1 L-z2 = record { z1 = z1; L-z2 = L-z2; mp = pos 0; LARpp = zeros 8; u = zeros 8; dp = zeros 120 }
 
 abbrev pub decoder-with : ℤ → Decoder
-decoder-with nrp = record { drp = words 120; nrp = nrp; LARpp = words 8; v = words 8; msr = pos 0 }
+decoder-with nrp = record { drp = zeros 120; nrp = nrp; LARpp = zeros 8; v = zeros 8; msr = pos 0 }
 
 -- of several that apply, the lowest
 pub record Refused : Type 0 where
-  pub encode-1 : encode-refusal (coder-with (pos 16381) (pos 0)) (words 159) (words 75) ≡ 1
-  pub encode-1-more : encode-refusal home-coder (words 161) (words 76) ≡ 1
-  pub encode-2 : encode-refusal (coder-with (pos 16381) (pos 0)) (words 160) (words 77) ≡ 2
-  pub encode-2-fewer : encode-refusal home-coder (words 160) (words 75) ≡ 2
-  pub encode-3 : encode-refusal (coder-with (pos 16381) (pos 0)) (words 160) (words 76) ≡ 3
-  pub encode-0 : encode-refusal home-coder (words 160) (words 76) ≡ 0
-  pub decode-1 : decode-refusal (decoder-with (pos 39)) (words 75) (words 161) ≡ 1
-  pub decode-1-fewer : decode-refusal home-decoder (words 76) (words 159) ≡ 1
-  pub decode-2 : decode-refusal (decoder-with (pos 39)) (words 75) (words 160) ≡ 2
-  pub decode-2-more : decode-refusal home-decoder (words 77) (words 160) ≡ 2
-  pub decode-3 : decode-refusal (decoder-with (pos 39)) (words 76) (words 160) ≡ 3
-  pub decode-3-above : decode-refusal (decoder-with (pos 121)) (words 76) (words 160) ≡ 3
-  pub decode-0 : decode-refusal (decoder-with (pos 120)) (words 76) (words 160) ≡ 0
-  pub decode-0-home : decode-refusal home-decoder (words 76) (words 160) ≡ 0
-  pub pack-2 : pack-refusal (pos 64 ∷ words 76) (replicate 32 0) ≡ 2
-  pub pack-2-fewer : pack-refusal (words 75) (replicate 33 0) ≡ 2
-  pub pack-4 : pack-refusal (pos 64 ∷ words 75) (replicate 32 0) ≡ 4
-  pub pack-4-more : pack-refusal (words 76) (replicate 34 0) ≡ 4
-  pub pack-5 : pack-refusal (pos 64 ∷ words 75) (replicate 33 0) ≡ 5
-  pub pack-5-negative : pack-refusal (words 75 ++ (neg 1 ∷ [])) (replicate 33 0) ≡ 5
-  pub pack-0 : pack-refusal (pos 63 ∷ words 75) (replicate 33 255) ≡ 0
-  pub unpack-2 : unpack-refusal (replicate 32 255) (words 75) ≡ 2
-  pub unpack-2-more : unpack-refusal (replicate 33 0) (words 77) ≡ 2
-  pub unpack-4 : unpack-refusal (replicate 34 255) (words 76) ≡ 4
-  pub unpack-4-fewer : unpack-refusal (replicate 32 0) (words 76) ≡ 4
-  pub unpack-6 : unpack-refusal (replicate 32 0 ++ (16 ∷ [])) (words 76) ≡ 6
-  pub unpack-6-last : unpack-refusal (replicate 32 0 ++ (128 ∷ [])) (words 76) ≡ 6
-  pub unpack-0 : unpack-refusal (replicate 32 255 ++ (15 ∷ [])) (words 76) ≡ 0
+  pub encode-1 : encode-refusal (coder-with (pos 16381) (pos 0)) (zeros 159) (zeros 75) ≡ 1
+  pub encode-1-more : encode-refusal home-coder (zeros 161) (zeros 76) ≡ 1
+  pub encode-2 : encode-refusal (coder-with (pos 16381) (pos 0)) (zeros 160) (zeros 77) ≡ 2
+  pub encode-2-fewer : encode-refusal home-coder (zeros 160) (zeros 75) ≡ 2
+  pub encode-3 : encode-refusal (coder-with (pos 16381) (pos 0)) (zeros 160) (zeros 76) ≡ 3
+  pub encode-0 : encode-refusal home-coder (zeros 160) (zeros 76) ≡ 0
+  pub decode-1 : decode-refusal (decoder-with (pos 39)) (zeros 75) (zeros 161) ≡ 1
+  pub decode-1-fewer : decode-refusal home-decoder (zeros 76) (zeros 159) ≡ 1
+  pub decode-2 : decode-refusal (decoder-with (pos 39)) (zeros 75) (zeros 160) ≡ 2
+  pub decode-2-more : decode-refusal home-decoder (zeros 77) (zeros 160) ≡ 2
+  pub decode-3 : decode-refusal (decoder-with (pos 39)) (zeros 76) (zeros 160) ≡ 3
+  pub decode-3-above : decode-refusal (decoder-with (pos 121)) (zeros 76) (zeros 160) ≡ 3
+  pub decode-0 : decode-refusal (decoder-with (pos 120)) (zeros 76) (zeros 160) ≡ 0
+  pub decode-0-home : decode-refusal home-decoder (zeros 76) (zeros 160) ≡ 0
+  pub pack-2 : pack-refusal (pos 64 ∷ zeros 76) (replicate 32 0) ≡ 2
+  pub pack-2-fewer : pack-refusal (zeros 75) (replicate 33 0) ≡ 2
+  pub pack-4 : pack-refusal (pos 64 ∷ zeros 75) (replicate 32 0) ≡ 4
+  pub pack-4-more : pack-refusal (zeros 76) (replicate 34 0) ≡ 4
+  pub pack-5 : pack-refusal (pos 64 ∷ zeros 75) (replicate 33 0) ≡ 5
+  pub pack-5-negative : pack-refusal (zeros 75 ++ (neg 1 ∷ [])) (replicate 33 0) ≡ 5
+  pub pack-0 : pack-refusal (pos 63 ∷ zeros 75) (replicate 33 255) ≡ 0
+  pub unpack-2 : unpack-refusal (replicate 32 255) (zeros 75) ≡ 2
+  pub unpack-2-more : unpack-refusal (replicate 33 0) (zeros 77) ≡ 2
+  pub unpack-4 : unpack-refusal (replicate 34 255) (zeros 76) ≡ 4
+  pub unpack-4-fewer : unpack-refusal (replicate 32 0) (zeros 76) ≡ 4
+  pub unpack-6 : unpack-refusal (replicate 32 0 ++ (16 ∷ [])) (zeros 76) ≡ 6
+  pub unpack-6-last : unpack-refusal (replicate 32 0 ++ (128 ∷ [])) (zeros 76) ≡ 6
+  pub unpack-0 : unpack-refusal (replicate 32 255 ++ (15 ∷ [])) (zeros 76) ≡ 0
 
 pub refused : Refused
 unfolding opened

@@ -50,5 +50,5 @@ unfoldable pub FAC : List ℤ
 FAC = pos 18431 ∷ pos 20479 ∷ pos 22527 ∷ pos 24575 ∷ pos 26623 ∷ pos 28671 ∷ pos 30719 ∷ pos 32767 ∷ []
 
 -- table 5.1a: the bits of LARc[1..8]
-unfoldable pub LARc-bits : List ℕ
-LARc-bits = 6 ∷ 6 ∷ 5 ∷ 5 ∷ 4 ∷ 4 ∷ 3 ∷ 3 ∷ []
+unfoldable pub LARc-widths : List ℕ
+LARc-widths = 6 ∷ 6 ∷ 5 ∷ 5 ∷ 4 ∷ 4 ∷ 3 ∷ 3 ∷ []

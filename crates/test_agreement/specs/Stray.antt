@@ -11,7 +11,7 @@ use Rattle.math_integers.specs.Halves.{P, N, zar}
 use Rattle.math_integers.specs.Sums.{add-is, scale-is}
 use Rattle.standard.specs.Arithmetic.{modulo}
 use Rattle.math_lists.specs.Tab.{zip-length}
-use Rattle.standard.specs.Tables.{LARc-bits}
+use Rattle.standard.specs.Tables.{LARc-widths}
 use Rattle.standard.specs.Frame.{sub-widths, widths, valid}
 use Rattle.law_arithmetic.specs.Shift.{modulo-raised}
 use Rattle.law_fields.specs.Valid.{low-bits}
@@ -22,7 +22,7 @@ stray k = zipWith (λ width c. c +ℤ k *ℤ pos (2 ^ width)) widths
 
 -- a frame's codewords stay as many
 pub stray-length : (k : ℤ) (c : List ℤ) → length c ≡ 76 → length (stray k c) ≡ 76
-unfolding widths LARc-bits sub-widths flatten stray
+unfolding widths LARc-widths sub-widths flatten stray
 stray-length k c h = rw zip-length (omega arith)
 
 -- a multiple of m leaves a number's low part: both are raised to the same positive number

@@ -250,7 +250,7 @@ fn frame(t: Tally, bytes: &[u8], at: usize, out: &mut [u8]) -> Lines
     ensures room { λ r. ⌜ r .end ≤ at + 64 ⌝ }
 {
     let mut samples = [0; 160];
-    io_files::words(bytes, &mut samples);
+    io_files::from_bytes(bytes, &mut samples);
     let n = t.frames + 1;
     let before = t.pair;
     let o = handed_over(n, before, samples);

@@ -11,7 +11,7 @@ returns c =
     let heard = out .before .before .before .before in
     let codewords = heard .before .before .before .before in
     let d = heard .decode .ensures in
-    (rw (codewords .words .ensures) at (d .state), rw (out .bytes .ensures, d .samples, codewords .words .ensures))
+    (rw (codewords .from-bytes .ensures) at (d .state), rw (out .to-bytes .ensures, d .samples, codewords .from-bytes .ensures))
 
 pub frame-spec : {M : Type 1} → statement M
 frame-spec =

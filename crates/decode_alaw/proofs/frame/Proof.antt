@@ -21,7 +21,7 @@ returns c =
     let start = codewords .before .before .before .before in
     let d = heard .decode-alaw .ensures in
     let full = puts-all (heard .decode-alaw .last .1 .1 .0) (start .args .out .now) (out .text .ensures) (omega (arith, as-many heard)) in
-    (rw (codewords .words .ensures) at (d .state), rw (full, d .octets, codewords .words .ensures))
+    (rw (codewords .from-bytes .ensures) at (d .state), rw (full, d .octets, codewords .from-bytes .ensures))
 
 pub frame-spec : {M : Type 1} → statement M
 frame-spec =

@@ -9,7 +9,7 @@ use mir.Syntax.{w16}
 use mir.Val.{SFits}
 use Rattle.math_integers.specs.Halves.{mem}
 use Rattle.math_integers.specs.Ranges.{back, res}
-use Rattle.frame_received.specs.Received.{ratio-words, residual}
+use Rattle.frame_received.specs.Received.{ratio-words, frame-reconstructed}
 use Rattle.frame_received.specs.Frame.{samples-length, samples-after, history-after}
 use Rattle.decoder.specs.Promise.{memory}
 use Rattle.decoder.specs.Whole.{whole, lent-history, lent-all}
@@ -18,7 +18,7 @@ use Rattle.decoder.proofs.frame.Tie as tie
 
 -- the 160 samples of residual
 abbrev wt : tie.Start → List ℤ
-wt s = flatten (residual (s .args .m .drp) (s .args .m .nrp) (s .args .codewords .now) .1)
+wt s = flatten (frame-reconstructed (s .args .m .drp) (s .args .m .nrp) (s .args .codewords .now) .1)
 
 -- what a start tells of its state
 history : (s : tie.Start) → length (s .args .m .drp) ≡ 120

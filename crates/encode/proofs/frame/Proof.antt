@@ -11,7 +11,7 @@ returns c =
     let coded = out .before .before .before .before in
     let samples = coded .before .before .before .before in
     let e = coded .encode .ensures in
-    (rw (samples .words .ensures) at (e .state), rw (out .bytes .ensures, e .codewords, samples .words .ensures))
+    (rw (samples .from-bytes .ensures) at (e .state), rw (out .to-bytes .ensures, e .codewords, samples .from-bytes .ensures))
 
 pub frame-spec : {M : Type 1} → statement M
 frame-spec =

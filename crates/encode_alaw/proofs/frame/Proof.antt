@@ -9,7 +9,7 @@ unfolding encoded
 returns c =
     let out = c .before .before .before in
     let e = out .before .before .before .before .encode-alaw .ensures in
-    (e .state, rw (out .bytes .ensures, e .codewords))
+    (e .state, rw (out .to-bytes .ensures, e .codewords))
 
 pub frame-spec : {M : Type 1} → statement M
 frame-spec =

@@ -50,27 +50,27 @@ cast-z1 c = let s = c .before .before in rw (back (z1-fits s)) (wide (z1-fits s)
 mul-centre : tie.Need-mul-centre
 mul-centre c = let s = c .before .before in rw (z1-is s) (centre-fits s)
 
-sub-between : tie.Need-sub-between
-sub-between c = let s = c .before .before .before .before in rw (z1-is s, back (centre-fits s)) (least-fits s 536740337 (omega arith))
+sub-within : tie.Need-sub-within
+sub-within c = let s = c .before .before .before .before in rw (z1-is s, back (centre-fits s)) (least-fits s 536740337 (omega arith))
 
-add-between : tie.Need-add-between
-add-between c = let s = c .before .before .before .before in rw (z1-is s, back (centre-fits s)) (most-fits s _ (omega arith))
+add-within : tie.Need-add-within
+add-within c = let s = c .before .before .before .before in rw (z1-is s, back (centre-fits s)) (most-fits s _ (omega arith))
 
 -- the first test
-z1-test : (a : tie.After-between) → let s = a .before .before .before in a .between .result ≡ within (neg 16384) (pos 16380) (z1 s)
+z1-test : (a : tie.After-within) → let s = a .before .before .before in a .within .result ≡ within (neg 16384) (pos 16380) (z1 s)
 z1-test a =
     let s = a .before .before .before in
-    let said : a .between .result ≡ within (neg 16384) (pos 16380) (mem w32 (mem w16 (z1 s))) = a .between .ensures in
+    let said : a .within .result ≡ within (neg 16384) (pos 16380) (mem w32 (mem w16 (z1 s))) = a .within .ensures in
     said ∙ ap (within (neg 16384) (pos 16380)) (z1-is s)
 
 -- and the second
-l-z2-test : (c : tie.After-between2) → let s = c .before .before .before .before .before .before in
-    c .between2 .result ≡ within (neg 536740337) (pos 536871409) (s .args .e .«l_z2» -ℤ pos 32768 *ℤ z1 s)
+l-z2-test : (c : tie.After-within2) → let s = c .before .before .before .before .before .before in
+    c .within2 .result ≡ within (neg 536740337) (pos 536871409) (s .args .e .«l_z2» -ℤ pos 32768 *ℤ z1 s)
 l-z2-test c =
     let s = c .before .before .before .before .before .before in
     let middle = mem w32 (mem w32 (mem w16 (z1 s)) *ℤ pos 32768) in
-    let said : c .between2 .result
-    ≡ within (mem w32 (middle -ℤ pos 536740337)) (mem w32 (middle +ℤ pos 536871409)) (mem w32 (s .args .e .«l_z2»)) = c .between2 .ensures in
+    let said : c .within2 .result
+    ≡ within (mem w32 (middle -ℤ pos 536740337)) (mem w32 (middle +ℤ pos 536871409)) (mem w32 (s .args .e .«l_z2»)) = c .within2 .ensures in
     let least = back (least-fits s 536740337 (omega arith)) in
     let most = back (most-fits s 536871409 (omega arith)) in
     rw (z1-is s, back (centre-fits s), least, most, back (l-z2-fits s)) at said
@@ -92,4 +92,4 @@ returns-2 c =
     rw first (c .if1 .left)
 
 pub sound-spec : {M : Type 1} → statement M
-sound-spec = tie.close (tie.spec cast-z1 mul-centre (λ c κs. search needs) sub-between add-between (λ c κs. search needs) returns returns-2)
+sound-spec = tie.close (tie.spec cast-z1 mul-centre (λ c κs. search needs) sub-within add-within (λ c κs. search needs) returns returns-2)

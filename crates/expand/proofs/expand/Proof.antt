@@ -9,7 +9,7 @@ returns : tie.Need-returns
 returns c =
     let out = c .before .before in
     let read = out .before .before .before .before in
-    out .bytes .ensures ∙ ap file-bytes (read .samples .ensures)
+    out .to-bytes .ensures ∙ ap file-bytes (read .samples .ensures)
 
 pub expand-spec : {M : Type 1} → statement M
 expand-spec = tie.close (tie.spec (λ c κs. search needs) (λ c κs. search needs) (λ c. search needs) (λ c. search needs) returns)

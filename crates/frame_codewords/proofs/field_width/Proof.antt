@@ -2,7 +2,7 @@ use borrow.Author.Needs.{needs}
 use mathlib.Core.Path.{_∙_}
 use mathlib.Core.List.{flatten}
 use native.Mathlib.Omega.{arith}
-use Rattle.standard.specs.Tables.{LARc-bits}
+use Rattle.standard.specs.Tables.{LARc-widths}
 use Rattle.standard.specs.Frame.{sub-widths, widths}
 use Rattle.op_tables.specs.Facts.{past-end}
 use Rattle.frame_codewords.specs.Widths.{width-first, width-later}
@@ -16,7 +16,7 @@ returns-2 : tie.Need-returns-2
 returns-2 c = c .sub-width .ensures ∙ width-later (c .before .before .before .args .i) (omega arith) (omega arith)
 
 returns-3 : tie.Need-returns-3
-unfolding widths LARc-bits sub-widths flatten
+unfolding widths LARc-widths sub-widths flatten
 returns-3 c = past-end widths (c .if2 .left)
 
 pub field-width-spec : {M : Type 1} → statement M

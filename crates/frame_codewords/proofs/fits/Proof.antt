@@ -12,7 +12,7 @@ use borrow.Author.Tests.{not-true, not-false}
 use Rattle.math_integers.specs.Ranges.{back}
 use Rattle.math_lists.specs.Every.{every, every-next, every-end}
 use Rattle.math_lists.specs.Tab.{zip-length, zip-at}
-use Rattle.standard.specs.Tables.{LARc-bits}
+use Rattle.standard.specs.Tables.{LARc-widths}
 use Rattle.standard.specs.Frame.{sub-widths, widths}
 use Rattle.standard.specs.House.{fit, fits}
 use Rattle.frame_codewords.specs.Widths.{width-most}
@@ -39,7 +39,7 @@ fit-requires c κs = rw (c .before .field-width .ensures) (omega (arith, width-m
 turn : (c : tie.After-fit Inv-loop μ-loop)
     → let k = c .before .before .before .before in
     fits (k .before .args .c .now) ≡ (c .fit .result && every (λ b. b) (drop (k .loop .i + 1) (tests (k .before .args .c .now))))
-unfolding widths LARc-bits sub-widths flatten
+unfolding widths LARc-widths sub-widths flatten
 turn c =
     let k = c .before .before .before .before in
     let i = k .loop .i in
@@ -56,7 +56,7 @@ loop-again : tie.Need-loop-again Inv-loop μ-loop
 loop-again c = (search needs, sym (rw (not-false (c .before .fit .result) (c .if1 .left)) at (turn (c .before))))
 
 returns-2 : tie.Need-returns-2 Inv-loop μ-loop
-unfolding widths LARc-bits sub-widths flatten
+unfolding widths LARc-widths sub-widths flatten
 returns-2 c =
     let k = c .before in
     sym (every-end (λ b. b) (tests (k .before .args .c .now)) (k .loop .i) (rw zip-length (omega arith))) ∙ k .loop .inv .1

@@ -9,7 +9,7 @@ use mir.Val.{SFits}
 use borrow.Author.Needs.{needs}
 use Rattle.math_integers.specs.Ranges.{back, res}
 use Rattle.math_lists.specs.Fill.{filled}
-use Rattle.standard.specs.Tables.{_at_, LARc-bits}
+use Rattle.standard.specs.Tables.{_at_, LARc-widths}
 use Rattle.law_fields.specs.Valid.{low-bits}
 use Rattle.frame_codewords.specs.Masked.{masked-next, masked-end}
 use Rattle.frame_codewords.specs.Widths.{LARc-most}
@@ -17,7 +17,7 @@ use Rattle.frame_codewords.proofs.larc_valid.Statement.{statement}
 use Rattle.frame_codewords.proofs.larc_valid.Tie as tie
 
 abbrev Inv-loop : tie.InvT-loop
-Inv-loop c v₀ i₀ v i = (i ≤ 8) × (length v ≡ 8) × (v ≡ filled i (zipWith low-bits LARc-bits c) v₀)
+Inv-loop c v₀ i₀ v i = (i ≤ 8) × (length v ≡ 8) × (v ≡ filled i (zipWith low-bits LARc-widths c) v₀)
 
 abbrev μ-loop : tie.MeasureT-loop
 μ-loop c v₀ i₀ v i = 8 - i
@@ -29,20 +29,20 @@ low-bits-requires : tie.Need-low-bits-requires Inv-loop μ-loop
 low-bits-requires c κs = rw (c .larc-width .ensures) (omega (arith, LARc-most (c .before .before .before .loop .i)))
 
 loop-again : tie.Need-loop-again Inv-loop μ-loop
-unfolding LARc-bits
+unfolding LARc-widths
 loop-again c =
     let k = c .before .before .before .before in
     let xs = k .before .args .c .now in
     let f : SFits w16 (xs at k .loop .i) = search needs in (
       search needs,
       simp length-set (k .loop .inv .1),
-      masked-next LARc-bits xs (replicate 8 (pos 0)) (k .before .pre) refl (k .loop .inv .2) (omega arith) (c .before .larc-width .ensures) (back f)
+      masked-next LARc-widths xs (replicate 8 (pos 0)) (k .before .pre) refl (k .loop .inv .2) (omega arith) (c .before .larc-width .ensures) (back f)
           (res (c .low-bits) ∙ c .low-bits .ensures),
     )
 
 returns : tie.Need-returns Inv-loop μ-loop
-unfolding LARc-bits
-returns c = let k = c .before in masked-end LARc-bits _ (replicate 8 (pos 0)) (k .before .pre) refl (k .loop .i) (k .loop .inv .2) (omega arith)
+unfolding LARc-widths
+returns c = let k = c .before in masked-end LARc-widths _ (replicate 8 (pos 0)) (k .before .pre) refl (k .loop .i) (k .loop .inv .2) (omega arith)
 
 pub larc-valid-spec : {M : Type 1} → statement M
 larc-valid-spec =

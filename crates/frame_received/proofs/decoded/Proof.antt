@@ -8,7 +8,7 @@ use lib.ListN.{length, take, drop, length-take, length-drop}
 use Rattle.math_integers.specs.Ranges.{back, res}
 use Rattle.math_lists.specs.Parts.{put}
 use Rattle.standard.specs.Frame.{Subframe, places}
-use Rattle.frame_received.specs.Received.{sub-frame, sub-frame-full, sub-frames, sub-residual, residual}
+use Rattle.frame_received.specs.Received.{sub-frame, sub-frame-full, sub-frames, sub-reconstructed, frame-reconstructed}
 use Rattle.frame_received.specs.Turn.{After, after-none, after-lag, after-next, after-all}
 use Rattle.frame_received.proofs.decoded.Statement.{statement}
 use Rattle.frame_received.proofs.decoded.Tie as tie
@@ -30,7 +30,7 @@ room s = search needs
 
 first : (c : tie.After-sub-decoded) → let s = c .before .before .before in
     Stands s (at s 8 ∷ []) (put 0 160 (s .args .drp .now) (c .sub-decoded .last .1 .1 .0)) (c .sub-decoded .result)
-unfolding sub-residual
+unfolding sub-reconstructed
 first c =
     let s = c .before .before .before in
     let n = back (s .fits .nrp) in
@@ -45,7 +45,7 @@ requires-2 c κs =
 
 second : (c : tie.After-sub-decoded2) → let t = c .before .before .before .before in let s = t .before .before .before in
     Stands s (at s 8 ∷ at s 25 ∷ []) (put 40 160 (put 0 160 (s .args .drp .now) (t .sub-decoded .last .1 .1 .0)) (c .sub-decoded2 .last .1 .1 .0)) (c .sub-decoded2 .result)
-unfolding sub-residual
+unfolding sub-reconstructed
 second c =
     let t = c .before .before .before .before in
     let s = t .before .before .before in
@@ -63,7 +63,7 @@ third : (c : tie.After-sub-decoded3) → let u = c .before .before .before .befo
     Stands s (at s 8 ∷ at s 25 ∷ at s 42 ∷ [])
     (put 80 160 (put 40 160 (put 0 160 (s .args .drp .now) (t .sub-decoded .last .1 .1 .0)) (u .sub-decoded2 .last .1 .1 .0)) (c .sub-decoded3 .last .1 .1 .0))
     (c .sub-decoded3 .result)
-unfolding sub-residual
+unfolding sub-reconstructed
 third c =
     let u = c .before .before .before .before in
     let t = u .before .before .before .before in
@@ -79,7 +79,7 @@ requires-4 c κs =
     (search needs, (search needs, rw (res (t .sub-decoded3)) (after-lag (s .args .drp .now) (s .args .nrp) (room s) (s .pre .1 .1) (third t))))
 
 returns : tie.Need-returns
-unfolding sub-residual residual sub-frames places
+unfolding sub-reconstructed frame-reconstructed sub-frames places
 returns c =
     let w = c .before .before .before .before .before in
     let s = w .before .before .before .before .before .before .before .before .before .before .before in

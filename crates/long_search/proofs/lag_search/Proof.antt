@@ -84,13 +84,13 @@ module _ (c : tie.After-better-arg Inv-loop μ-loop) where
       ap₂ _+ℤ_ (res (c .before .l-sum) ∙ e) (back f ∙ last-is)
 
   sum-fits : SFits w32 (mem w32 (c .before .l-sum .result) +ℤ mem w32 (t .before .lasts .result at (80 - i)))
-  sum-fits = rw sum-is (lag-fits wt dp (80 - i) (s .pre .0) (s .pre .1 .0) (s .pre .1 .1) (t .before .before .words .ensures) (omega arith))
+  sum-fits = rw sum-is (lag-fits wt dp (80 - i) (s .pre .0) (s .pre .1 .0) (s .pre .1 .1) (t .before .before .each-a-word .ensures) (omega arith))
 
   turn : mem w32 (mem w32 (c .before .l-sum .result) +ℤ mem w32 (t .before .lasts .result at (80 - i))) ≡ correlated wt dp at i
   turn =
       back sum-fits
       ∙ (sum-is
-      ∙ (lag-split wt dp (80 - i) (s .pre .0) (s .pre .1 .0) (s .pre .1 .1) (t .before .before .words .ensures) (omega arith)
+      ∙ (lag-split wt dp (80 - i) (s .pre .0) (s .pre .1 .0) (s .pre .1 .1) (t .before .before .each-a-word .ensures) (omega arith)
       ∙ (ap (L-sum (pos 0) wt) (back-is dp i) ∙ sym (correlated-at wt dp i (omega arith)))))
 
 loop-again : tie.Need-loop-again Inv-loop μ-loop

@@ -19,7 +19,7 @@ returns c =
     let m = offset .before in
     let a = m .before in
     let temp = down-bits w16 (t .add2 .result) 9 (search needs) in
-    rw (res (c .sub) ∙ c .sub .ensures, res (b .between) ∙ b .between .ensures, temp, t .add2 .ensures, res (s .add) ∙ s .add .ensures)
+    rw (res (c .sub) ∙ c .sub .ensures, res (b .clamped) ∙ b .clamped .ensures, temp, t .add2 .ensures, res (s .add) ∙ s .add .ensures)
     (rw (res (m .mult) ∙ m .mult .ensures, res (a .lar-a) ∙ a .lar-a .ensures, res (offset .lar-b) ∙ offset .lar-b .ensures, back (a .before .fits .lar))
     (rw (res (low .lar-mic) ∙ low .lar-mic .ensures, res (high .lar-mac) ∙ high .lar-mac .ensures)))
 

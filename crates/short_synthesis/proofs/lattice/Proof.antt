@@ -21,7 +21,7 @@ sub-limited c = let s = c .before .before .before .before in low-fits (s .args .
 limited-requires : tie.Need-limited-requires
 limited-requires c κs =
     let s = c .before .before .before .before in
-    (rw (c .before .same2 .ensures) (s .pre .0), rw (c .down .ensures) (s .pre .2), rw (low-is (s .args .wt) (s .pre .3)) (s .pre .3))
+    (rw (c .before .same2 .ensures) (s .pre .0), rw (c .without-bias .ensures) (s .pre .2), rw (low-is (s .args .wt) (s .pre .3)) (s .pre .3))
 
 -- the start, from the slow way
 abbrev entry : tie.After-limited → tie.Start
@@ -34,15 +34,15 @@ slow : (c : tie.After-limited) → let a = entry c .args in
     cells (c .limited .result) ≡ synthesised (cells (base (a .v))) (cells (a .r), low (a .wt)) .0
 slow c =
     let s = entry c in
-    rw (c .before .before .same2 .ensures, c .before .down .ensures, low-is (s .args .wt) (s .pre .3)) at (c .limited .ensures)
+    rw (c .before .before .same2 .ensures, c .before .without-bias .ensures, low-is (s .args .wt) (s .pre .3)) at (c .limited .ensures)
 
-up-requires : tie.Need-up-requires
-up-requires c κs =
+with-bias-requires : tie.Need-with-bias-requires
+with-bias-requires c κs =
     let a = entry c .args in
     after-words (a .r) (base (a .v)) (low (a .wt)) (c .limited .result) (slow c)
 
 returns-2 : tie.Need-returns-2
-returns-2 c = ap cells (c .up .ensures) ∙ slow (c .before)
+returns-2 c = ap cells (c .with-bias .ensures) ∙ slow (c .before)
 
 pub lattice-spec : {M : Type 1} → statement M
 lattice-spec =
@@ -55,5 +55,5 @@ lattice-spec =
     (λ c κs. search needs)
     sub-limited
     limited-requires
-    up-requires
+    with-bias-requires
     returns-2)

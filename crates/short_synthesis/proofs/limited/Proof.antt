@@ -14,8 +14,8 @@ use Rattle.short_synthesis.proofs.limited.Tie as tie
 factors : (c : tie.Start) → Held (c .args .r)
 factors c = factors-held (c .args .r) (c .pre .0)
 
-words : (c : tie.Start) → Held (c .args .v)
-words c = words-held (c .args .v) (c .pre .1)
+cells-held : (c : tie.Start) → Held (c .args .v)
+cells-held c = words-held (c .args .v) (c .pre .1)
 
 -- the start, from after each call
 abbrev entry-1 : tie.After-through → tie.Start
@@ -68,49 +68,49 @@ word-7 c = out-word refl refl refl (c .through7 .ensures .0)
 through-requires : tie.Need-through-requires
 through-requires c κs =
     let s = c .before .before in
-    (rw (factors s .v7) (s .pre .0 .v7), rw (words s .v7) (s .pre .1 .v7), rw (back (s .fits .wt)) (s .pre .2))
+    (rw (factors s .v7) (s .pre .0 .v7), rw (cells-held s .v7) (s .pre .1 .v7), rw (back (s .fits .wt)) (s .pre .2))
 
 through-requires-2 : tie.Need-through-requires-2
 through-requires-2 c κs =
     let b = c .before .before .before in
     let s = entry-1 b in
-    (rw (factors s .v6) (s .pre .0 .v6), rw (words s .v6) (s .pre .1 .v6), rw (word-back (b .through .result .out) (word-1 b)) (word-1 b))
+    (rw (factors s .v6) (s .pre .0 .v6), rw (cells-held s .v6) (s .pre .1 .v6), rw (word-back (b .through .result .out) (word-1 b)) (word-1 b))
 
 through-requires-3 : tie.Need-through-requires-3
 through-requires-3 c κs =
     let b = c .before .before .before in
     let s = entry-2 b in
-    (rw (factors s .v5) (s .pre .0 .v5), rw (words s .v5) (s .pre .1 .v5), rw (word-back (b .through2 .result .out) (word-2 b)) (word-2 b))
+    (rw (factors s .v5) (s .pre .0 .v5), rw (cells-held s .v5) (s .pre .1 .v5), rw (word-back (b .through2 .result .out) (word-2 b)) (word-2 b))
 
 through-requires-4 : tie.Need-through-requires-4
 through-requires-4 c κs =
     let b = c .before .before .before in
     let s = entry-3 b in
-    (rw (factors s .v4) (s .pre .0 .v4), rw (words s .v4) (s .pre .1 .v4), rw (word-back (b .through3 .result .out) (word-3 b)) (word-3 b))
+    (rw (factors s .v4) (s .pre .0 .v4), rw (cells-held s .v4) (s .pre .1 .v4), rw (word-back (b .through3 .result .out) (word-3 b)) (word-3 b))
 
 through-requires-5 : tie.Need-through-requires-5
 through-requires-5 c κs =
     let b = c .before .before .before in
     let s = entry-4 b in
-    (rw (factors s .v3) (s .pre .0 .v3), rw (words s .v3) (s .pre .1 .v3), rw (word-back (b .through4 .result .out) (word-4 b)) (word-4 b))
+    (rw (factors s .v3) (s .pre .0 .v3), rw (cells-held s .v3) (s .pre .1 .v3), rw (word-back (b .through4 .result .out) (word-4 b)) (word-4 b))
 
 through-requires-6 : tie.Need-through-requires-6
 through-requires-6 c κs =
     let b = c .before .before .before in
     let s = entry-5 b in
-    (rw (factors s .v2) (s .pre .0 .v2), rw (words s .v2) (s .pre .1 .v2), rw (word-back (b .through5 .result .out) (word-5 b)) (word-5 b))
+    (rw (factors s .v2) (s .pre .0 .v2), rw (cells-held s .v2) (s .pre .1 .v2), rw (word-back (b .through5 .result .out) (word-5 b)) (word-5 b))
 
 through-requires-7 : tie.Need-through-requires-7
 through-requires-7 c κs =
     let b = c .before .before .before in
     let s = entry-6 b in
-    (rw (factors s .v1) (s .pre .0 .v1), rw (words s .v1) (s .pre .1 .v1), rw (word-back (b .through6 .result .out) (word-6 b)) (word-6 b))
+    (rw (factors s .v1) (s .pre .0 .v1), rw (cells-held s .v1) (s .pre .1 .v1), rw (word-back (b .through6 .result .out) (word-6 b)) (word-6 b))
 
 through-requires-8 : tie.Need-through-requires-8
 through-requires-8 c κs =
     let b = c .before .before .before in
     let s = entry-7 b in
-    (rw (factors s .v0) (s .pre .0 .v0), rw (words s .v0) (s .pre .1 .v0), rw (word-back (b .through7 .result .out) (word-7 b)) (word-7 b))
+    (rw (factors s .v0) (s .pre .0 .v0), rw (cells-held s .v0) (s .pre .1 .v0), rw (word-back (b .through7 .result .out) (word-7 b)) (word-7 b))
 
 -- ---- all of them
 
@@ -164,22 +164,22 @@ sections c =
     let c1 = c2 .before .before .before .before in
     let s = entry-1 c1 in
     record {
-      s7 = out-is (factors s .v7) (words s .v7) (back (s .fits .wt)) (c1 .through .ensures .0);
-      s6 = out-is (factors s .v6) (words s .v6) refl (c2 .through2 .ensures .0);
-      s5 = out-is (factors s .v5) (words s .v5) refl (c3 .through3 .ensures .0);
-      s4 = out-is (factors s .v4) (words s .v4) refl (c4 .through4 .ensures .0);
-      s3 = out-is (factors s .v3) (words s .v3) refl (c5 .through5 .ensures .0);
-      s2 = out-is (factors s .v2) (words s .v2) refl (c6 .through6 .ensures .0);
-      s1 = out-is (factors s .v1) (words s .v1) refl (c7 .through7 .ensures .0);
-      s0 = out-is (factors s .v0) (words s .v0) refl (c .through8 .ensures .0);
+      s7 = out-is (factors s .v7) (cells-held s .v7) (back (s .fits .wt)) (c1 .through .ensures .0);
+      s6 = out-is (factors s .v6) (cells-held s .v6) refl (c2 .through2 .ensures .0);
+      s5 = out-is (factors s .v5) (cells-held s .v5) refl (c3 .through3 .ensures .0);
+      s4 = out-is (factors s .v4) (cells-held s .v4) refl (c4 .through4 .ensures .0);
+      s3 = out-is (factors s .v3) (cells-held s .v3) refl (c5 .through5 .ensures .0);
+      s2 = out-is (factors s .v2) (cells-held s .v2) refl (c6 .through6 .ensures .0);
+      s1 = out-is (factors s .v1) (cells-held s .v1) refl (c7 .through7 .ensures .0);
+      s0 = out-is (factors s .v0) (cells-held s .v0) refl (c .through8 .ensures .0);
       u0 = refl;
-      u1 = above-is (factors s .v0) (words s .v0) refl (c .through8 .ensures .0) (c .through8 .ensures .1);
-      u2 = above-is (factors s .v1) (words s .v1) refl (c7 .through7 .ensures .0) (c7 .through7 .ensures .1);
-      u3 = above-is (factors s .v2) (words s .v2) refl (c6 .through6 .ensures .0) (c6 .through6 .ensures .1);
-      u4 = above-is (factors s .v3) (words s .v3) refl (c5 .through5 .ensures .0) (c5 .through5 .ensures .1);
-      u5 = above-is (factors s .v4) (words s .v4) refl (c4 .through4 .ensures .0) (c4 .through4 .ensures .1);
-      u6 = above-is (factors s .v5) (words s .v5) refl (c3 .through3 .ensures .0) (c3 .through3 .ensures .1);
-      u7 = above-is (factors s .v6) (words s .v6) refl (c2 .through2 .ensures .0) (c2 .through2 .ensures .1);
+      u1 = above-is (factors s .v0) (cells-held s .v0) refl (c .through8 .ensures .0) (c .through8 .ensures .1);
+      u2 = above-is (factors s .v1) (cells-held s .v1) refl (c7 .through7 .ensures .0) (c7 .through7 .ensures .1);
+      u3 = above-is (factors s .v2) (cells-held s .v2) refl (c6 .through6 .ensures .0) (c6 .through6 .ensures .1);
+      u4 = above-is (factors s .v3) (cells-held s .v3) refl (c5 .through5 .ensures .0) (c5 .through5 .ensures .1);
+      u5 = above-is (factors s .v4) (cells-held s .v4) refl (c4 .through4 .ensures .0) (c4 .through4 .ensures .1);
+      u6 = above-is (factors s .v5) (cells-held s .v5) refl (c3 .through3 .ensures .0) (c3 .through3 .ensures .1);
+      u7 = above-is (factors s .v6) (cells-held s .v6) refl (c2 .through2 .ensures .0) (c2 .through2 .ensures .1);
     }
 
 returns : tie.Need-returns

@@ -16,8 +16,8 @@ use Rattle.short_synthesis.proofs.plain.Tie as tie
 factors : (c : tie.Start) → Held (c .args .r)
 factors c = factors-held (c .args .r) (c .pre .0)
 
-words : (c : tie.Start) → Held (c .args .v)
-words c = lifted-held (c .args .v) (c .pre .2)
+cells-held : (c : tie.Start) → Held (c .args .v)
+cells-held c = lifted-held (c .args .v) (c .pre .2)
 
 -- an offset, through its local
 offset-is : {r c mr : ℤ} → factor r ≡ true → mr ≡ r → c ≡ offset r → mem w32 c ≡ offset mr
@@ -78,7 +78,7 @@ tried-requires c κs =
     let s = entry-7 b in
     let f = factors s .v6 in
     let p = s .pre in
-    (rw f (p .0 .v6), offset-is (p .0 .v6) f (p .1 .v6), rw (words s .v6) (p .2 .v6), b .entered .ensures .0)
+    (rw f (p .0 .v6), offset-is (p .0 .v6) f (p .1 .v6), rw (cells-held s .v6) (p .2 .v6), b .entered .ensures .0)
 
 tried-requires-2 : tie.Need-tried-requires-2
 tried-requires-2 c κs =
@@ -86,7 +86,7 @@ tried-requires-2 c κs =
     let s = entry-6 b in
     let f = factors s .v5 in
     let p = s .pre in
-    (rw f (p .0 .v5), offset-is (p .0 .v5) f (p .1 .v5), rw (words s .v5) (p .2 .v5), b .tried .ensures .0)
+    (rw f (p .0 .v5), offset-is (p .0 .v5) f (p .1 .v5), rw (cells-held s .v5) (p .2 .v5), b .tried .ensures .0)
 
 tried-requires-3 : tie.Need-tried-requires-3
 tried-requires-3 c κs =
@@ -94,7 +94,7 @@ tried-requires-3 c κs =
     let s = entry-5 b in
     let f = factors s .v4 in
     let p = s .pre in
-    (rw f (p .0 .v4), offset-is (p .0 .v4) f (p .1 .v4), rw (words s .v4) (p .2 .v4), b .tried2 .ensures .0)
+    (rw f (p .0 .v4), offset-is (p .0 .v4) f (p .1 .v4), rw (cells-held s .v4) (p .2 .v4), b .tried2 .ensures .0)
 
 tried-requires-4 : tie.Need-tried-requires-4
 tried-requires-4 c κs =
@@ -102,7 +102,7 @@ tried-requires-4 c κs =
     let s = entry-4 b in
     let f = factors s .v3 in
     let p = s .pre in
-    (rw f (p .0 .v3), offset-is (p .0 .v3) f (p .1 .v3), rw (words s .v3) (p .2 .v3), b .tried3 .ensures .0)
+    (rw f (p .0 .v3), offset-is (p .0 .v3) f (p .1 .v3), rw (cells-held s .v3) (p .2 .v3), b .tried3 .ensures .0)
 
 tried-requires-5 : tie.Need-tried-requires-5
 tried-requires-5 c κs =
@@ -110,7 +110,7 @@ tried-requires-5 c κs =
     let s = entry-3 b in
     let f = factors s .v2 in
     let p = s .pre in
-    (rw f (p .0 .v2), offset-is (p .0 .v2) f (p .1 .v2), rw (words s .v2) (p .2 .v2), b .tried4 .ensures .0)
+    (rw f (p .0 .v2), offset-is (p .0 .v2) f (p .1 .v2), rw (cells-held s .v2) (p .2 .v2), b .tried4 .ensures .0)
 
 tried-requires-6 : tie.Need-tried-requires-6
 tried-requires-6 c κs =
@@ -118,7 +118,7 @@ tried-requires-6 c κs =
     let s = entry-2 b in
     let f = factors s .v1 in
     let p = s .pre in
-    (rw f (p .0 .v1), offset-is (p .0 .v1) f (p .1 .v1), rw (words s .v1) (p .2 .v1), b .tried5 .ensures .0)
+    (rw f (p .0 .v1), offset-is (p .0 .v1) f (p .1 .v1), rw (cells-held s .v1) (p .2 .v1), b .tried5 .ensures .0)
 
 tried-requires-7 : tie.Need-tried-requires-7
 tried-requires-7 c κs =
@@ -126,7 +126,7 @@ tried-requires-7 c κs =
     let s = entry-1 b in
     let f = factors s .v0 in
     let p = s .pre in
-    (rw f (p .0 .v0), offset-is (p .0 .v0) f (p .1 .v0), rw (words s .v0) (p .2 .v0), b .tried6 .ensures .0)
+    (rw f (p .0 .v0), offset-is (p .0 .v0) f (p .1 .v0), rw (cells-held s .v0) (p .2 .v0), b .tried6 .ensures .0)
 
 -- ---- all of them
 
@@ -191,22 +191,22 @@ sections c h =
     let (f6, p5) = c5 .tried2 .ensures .1 f5 in
     let (f7, p6) = c6 .tried .ensures .1 f6 in
     record {
-      s7 = rw (factors s .v7, words s .v7, back (s .fits .wt)) at (c7 .entered .ensures .1 f7);
-      s6 = low-out (factors s .v6) (words s .v6) p6;
-      s5 = low-out (factors s .v5) (words s .v5) p5;
-      s4 = low-out (factors s .v4) (words s .v4) p4;
-      s3 = low-out (factors s .v3) (words s .v3) p3;
-      s2 = low-out (factors s .v2) (words s .v2) p2;
-      s1 = low-out (factors s .v1) (words s .v1) p1;
-      s0 = low-out (factors s .v0) (words s .v0) p0;
+      s7 = rw (factors s .v7, cells-held s .v7, back (s .fits .wt)) at (c7 .entered .ensures .1 f7);
+      s6 = low-out (factors s .v6) (cells-held s .v6) p6;
+      s5 = low-out (factors s .v5) (cells-held s .v5) p5;
+      s4 = low-out (factors s .v4) (cells-held s .v4) p4;
+      s3 = low-out (factors s .v3) (cells-held s .v3) p3;
+      s2 = low-out (factors s .v2) (cells-held s .v2) p2;
+      s1 = low-out (factors s .v1) (cells-held s .v1) p1;
+      s0 = low-out (factors s .v0) (cells-held s .v0) p0;
       u0 = ap low (lifted-back (c .tried7 .result .out) (c .tried7 .ensures .0));
-      u1 = low-above (factors s .v0) (words s .v0) p0;
-      u2 = low-above (factors s .v1) (words s .v1) p1;
-      u3 = low-above (factors s .v2) (words s .v2) p2;
-      u4 = low-above (factors s .v3) (words s .v3) p3;
-      u5 = low-above (factors s .v4) (words s .v4) p4;
-      u6 = low-above (factors s .v5) (words s .v5) p5;
-      u7 = low-above (factors s .v6) (words s .v6) p6;
+      u1 = low-above (factors s .v0) (cells-held s .v0) p0;
+      u2 = low-above (factors s .v1) (cells-held s .v1) p1;
+      u3 = low-above (factors s .v2) (cells-held s .v2) p2;
+      u4 = low-above (factors s .v3) (cells-held s .v3) p3;
+      u5 = low-above (factors s .v4) (cells-held s .v4) p4;
+      u6 = low-above (factors s .v5) (cells-held s .v5) p5;
+      u7 = low-above (factors s .v6) (cells-held s .v6) p6;
     }
 
 returns : tie.Need-returns

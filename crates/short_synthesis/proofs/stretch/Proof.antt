@@ -45,7 +45,7 @@ abbrev Begun : Type 0
 Begun = tie.After-struct-told Inv-loop μ-loop Inv-loop2 μ-loop2
 
 -- where the cells are ready
-abbrev ready : Begun → tie.After-up Inv-loop μ-loop Inv-loop2 μ-loop2
+abbrev ready : Begun → tie.After-with-bias Inv-loop μ-loop Inv-loop2 μ-loop2
 ready b = b .before .before
 
 -- where the coefficients are
@@ -74,7 +74,7 @@ loop-holds c =
     let u = ready c in
     let m = start c .args .s .msr in (
       along-start sounded _ _ _,
-      rw (u .up .ensures) (u .before .spread2 .ensures .1),
+      rw (u .with-bias .ensures) (u .before .spread2 .ensures .1),
       rw (widened m (msr-fits c)) (word-yes m (msr-fits c)),
       omega arith,
       start c .pre .0,
@@ -189,7 +189,7 @@ abbrev ended : tie.After-loop2 Inv-loop μ-loop Inv-loop2 μ-loop2 → tie.At-lo
 ended c = c .before .before .before
 
 gathered-requires : tie.Need-gathered-requires Inv-loop μ-loop Inv-loop2 μ-loop2
-gathered-requires c κs = rw (c .down .ensures) (ended (c .before) .loop .inv .1)
+gathered-requires c κs = rw (c .without-bias .ensures) (ended (c .before) .loop .inv .1)
 
 -- msr at the end is a word
 last-fits : (c : tie.After-gathered Inv-loop μ-loop Inv-loop2 μ-loop2) → SFits w16 (toZ w32 (ended (c .before .before) .loop .msr))
@@ -211,12 +211,12 @@ returns c =
     let l = t .loop in
     let a = start b .args in
     let done = along-end sounded _ _ (l .inv .0) (rw paired-length (omega arith)) (omega arith) in
-    let v = ap cells (ready b .up .ensures) ∙ ready b .before .spread2 .ensures .0 in
+    let v = ap cells (ready b .with-bias .ensures) ∙ ready b .before .spread2 .ensures .0 in
     let run = rw (spread-at b .spread .ensures .0, v, widened (a .s .msr) (msr-fits b)) at done in
     let n = length-map (l .srop) srop in
     let out = fill-end (map srop (l .srop)) (l .srop) (doubled .loop2 .k) (doubled .loop2 .inv .2) (omega arith) (omega arith) in
     rw (voiced-is (a .s .v) (a .s .msr) (a .rrp) (a .wt .now)) (
-      rw (c .before .down .ensures) at (c .gathered .ensures) ∙ ap (λ p. p .0) (run .0),
+      rw (c .before .without-bias .ensures) at (c .gathered .ensures) ∙ ap (λ p. p .0) (run .0),
       (back (last-fits c) ∙ ap (λ p. p .1) (run .0), out ∙ ap (map srop) (run .1)),
     )
 

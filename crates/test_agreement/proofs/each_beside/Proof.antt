@@ -12,7 +12,7 @@ use Rattle.math_integers.specs.Ranges.{back, res}
 use Rattle.math_lists.specs.Every.{every-at}
 use Rattle.math_lists.specs.Fill.{filled, fill-next, fill-read, fill-end}
 use Rattle.math_lists.specs.Tab.{zip-length, zip-at}
-use Rattle.standard.specs.Tables.{_at_, LARc-bits}
+use Rattle.standard.specs.Tables.{_at_, LARc-widths}
 use Rattle.standard.specs.Frame.{sub-widths, widths}
 use Rattle.standard.specs.House.{fit, fits}
 use Rattle.frame_codewords.specs.Widths.{width-most}
@@ -32,14 +32,14 @@ module _ (s : tie.Start Inv-loop μ-loop) (i : ℕ) (h : i < 76) where
   first = s .args .codewords .now
 
   fit-at : fit (getD widths i 0) (first at i) ≡ true
-  unfolding widths LARc-bits sub-widths flatten fits
+  unfolding widths LARc-widths sub-widths flatten fits
   fit-at =
       let l = s .pre .0 in
       rw (zip-at fit widths first i 0 (pos 0) true (omega arith) (omega arith)) at
       (every-at (λ b. b) (zipWith fit widths first) i true (s .pre .1 .0) (rw zip-length (omega arith)))
 
   stray-at : stray (s .args .k) first at i ≡ first at i +ℤ s .args .k *ℤ pos (2 ^ getD widths i 0)
-  unfolding widths LARc-bits sub-widths flatten stray
+  unfolding widths LARc-widths sub-widths flatten stray
   stray-at = let l = s .pre .0 in zip-at _ widths first i 0 (pos 0) (pos 0) (omega arith) (omega arith)
 
 -- where a turn stands: what is filled so far, and that it reads the codeword as it was

@@ -1,7 +1,7 @@
 -- Eight numbers less 32768: each is the word that it stands for.
 use Rattle.short_synthesis.specs.Biased.{low-fits, low-is}
-use Rattle.short_synthesis.proofs.down.Statement.{statement}
-use Rattle.short_synthesis.proofs.down.Tie as tie
+use Rattle.short_synthesis.proofs.without_bias.Statement.{statement}
+use Rattle.short_synthesis.proofs.without_bias.Tie as tie
 
 -- the start, from where each of the eight is read
 abbrev entry-0 : tie.After-struct-told → tie.Start
@@ -44,8 +44,8 @@ returns c =
       low-is (l .v7) (h .v7),
     )
 
-pub down-spec : {M : Type 1} → statement M
-down-spec =
+pub without-bias-spec : {M : Type 1} → statement M
+without-bias-spec =
     tie.close
     (tie.spec
     (λ c. let s = entry-0 c in low-fits (s .args .l .v0) (s .pre .v0))

@@ -1,6 +1,6 @@
 use Rattle.math_integers.specs.Ranges.{back}
-use Rattle.encoder.proofs.between.Statement.{statement}
-use Rattle.encoder.proofs.between.Tie as tie
+use Rattle.encoder.proofs.within.Statement.{statement}
+use Rattle.encoder.proofs.within.Tie as tie
 
 returns : tie.Need-returns
 returns c =
@@ -12,5 +12,5 @@ returns-2 c =
     let s = c .before in
     rw (back (s .fits .z), back (s .fits .least), rw (back (s .fits .z), back (s .fits .least)) at (c .if1 .left))
 
-pub between-spec : {M : Type 1} → statement M
-between-spec = tie.close (tie.spec returns returns-2)
+pub within-spec : {M : Type 1} → statement M
+within-spec = tie.close (tie.spec returns returns-2)

@@ -9,8 +9,8 @@ use Rattle.math_lists.specs.Fill.{filled, fill-next, fill-end}
 use Rattle.law_lengths.specs.Listing.{file-words-length}
 use Rattle.standard.specs.Files.{file-words}
 use Rattle.io_files.specs.Words.{word-at}
-use Rattle.io_files.proofs.words.Statement.{statement}
-use Rattle.io_files.proofs.words.Tie as tie
+use Rattle.io_files.proofs.from_bytes.Statement.{statement}
+use Rattle.io_files.proofs.from_bytes.Tie as tie
 
 abbrev Inv-loop : tie.InvT-loop
 Inv-loop bytes words₀ i₀ i-end words i = (i ≤ length words₀) × (length words ≡ length words₀) × (words ≡ filled i (file-words bytes) words₀)
@@ -36,8 +36,8 @@ returns c =
     let b = a .bytes .now in
     fill-end (file-words b) (a .words .now) (c .before .loop .i) (c .before .loop .inv .2) (omega (arith, file-words-length b)) (omega arith)
 
-pub words-spec : {M : Type 1} → statement M
-words-spec =
+pub from-bytes-spec : {M : Type 1} → statement M
+from-bytes-spec =
     tie.close
     (tie.spec
     Inv-loop

@@ -10,8 +10,8 @@ use Rattle.math_integers.specs.Ranges.{back}
 use Rattle.math_lists.specs.Fill.{filled, fill-next, fill-end}
 use Rattle.standard.specs.Files.{file-bytes}
 use Rattle.io_files.specs.Words.{file-bytes-length, bytes-at}
-use Rattle.io_files.proofs.bytes.Statement.{statement}
-use Rattle.io_files.proofs.bytes.Tie as tie
+use Rattle.io_files.proofs.to_bytes.Statement.{statement}
+use Rattle.io_files.proofs.to_bytes.Tie as tie
 
 abbrev Inv-loop : tie.InvT-loop
 Inv-loop words bytes₀ i₀ i-end bytes i = (i ≤ length words) × (length bytes ≡ length bytes₀) × (bytes ≡ filled (2 * i) (file-bytes words) bytes₀)
@@ -43,8 +43,8 @@ returns c =
     let w = a .words .now in
     fill-end (file-bytes w) (a .bytes .now) (2 * c .before .loop .i) (c .before .loop .inv .2) (omega (arith, file-bytes-length w)) (omega arith)
 
-pub bytes-spec : {M : Type 1} → statement M
-bytes-spec =
+pub to-bytes-spec : {M : Type 1} → statement M
+to-bytes-spec =
     tie.close
     (tie.spec
     Inv-loop

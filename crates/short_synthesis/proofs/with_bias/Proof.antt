@@ -1,7 +1,7 @@
 -- Eight words plus 32768: each fits, and stands for the word it came from.
 use Rattle.short_synthesis.specs.Biased.{lift-fits, lift-is}
-use Rattle.short_synthesis.proofs.up.Statement.{statement}
-use Rattle.short_synthesis.proofs.up.Tie as tie
+use Rattle.short_synthesis.proofs.with_bias.Statement.{statement}
+use Rattle.short_synthesis.proofs.with_bias.Tie as tie
 
 -- the start, from where each of the eight is read
 abbrev entry-0 : tie.After-struct-told → tie.Start
@@ -44,8 +44,8 @@ returns c =
       lift-is (l .v7) (h .v7),
     )
 
-pub up-spec : {M : Type 1} → statement M
-up-spec =
+pub with-bias-spec : {M : Type 1} → statement M
+with-bias-spec =
     tie.close
     (tie.spec
     (λ c. let s = entry-0 c in lift-fits (s .args .l .v0) (s .pre .v0))

@@ -10,8 +10,8 @@ use mir.Val.{SFits}
 use borrow.Author.Needs.{needs, sfits-of}
 use Rattle.standard.specs.Tables.{_at_}
 use Rattle.law_arithmetic.specs.Within.{words-yes}
-use Rattle.long_search.proofs.words.Statement.{statement}
-use Rattle.long_search.proofs.words.Tie as tie
+use Rattle.long_search.proofs.each_a_word.Statement.{statement}
+use Rattle.long_search.proofs.each_a_word.Tie as tie
 
 abbrev Inv-loop : tie.InvT-loop
 Inv-loop s k₀ k-end k = (k ≤ length s) × ((j : ℕ) → j < k → SFits w16 (s at j))
@@ -32,8 +32,8 @@ returns c =
     let t = c .before in
     words-yes (t .before .args .s .now) (λ j h. t .loop .inv .1 j (omega arith))
 
-pub words-spec : {M : Type 1} → statement M
-words-spec =
+pub each-a-word-spec : {M : Type 1} → statement M
+each-a-word-spec =
     tie.close
     (tie.spec
     Inv-loop
