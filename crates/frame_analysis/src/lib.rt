@@ -1,5 +1,5 @@
-// 4.2.0 to 4.2.10: what is done once for a frame. From 160 samples to the codes of the eight ratios, how the recursion ended, and the 160 samples
-// of the short term residual d.
+// 4.2.0 to 4.2.10: what is done once for a frame. From 160 samples it makes the codes of the eight ratios, how the
+// recursion ended, and the 160 samples of the short term residual d.
 use lpc_reflection::Ending;
 use pre_processing::Kept;
 ghost use mathlib.Core.Path.{_≡_};
@@ -62,13 +62,13 @@ fn measured(s: &mut [i16]) -> Ratios
     }
 }
 
-// A frame, from a sound state.
-pub fn frame(m: Filters, sop: &[i16], d: &mut [i16]) -> Analysed
-    requires { ⌜ (length (now sop) ≡ 160) × ((length (now d) ≡ 160) × (sound-coder (coder-of m) ≡ true)) ⌝ }
+// A frame, from a sound state. The buffer signal holds s from 4.2.3 on, and d from 4.2.10 on.
+pub fn frame(m: Filters, sop: &[i16], signal: &mut [i16]) -> Analysed
+    requires { ⌜ (length (now sop) ≡ 160) × ((length (now signal) ≡ 160) × (sound-coder (coder-of m) ≡ true)) ⌝ }
     ensures next { λ t. ⌜ coder-of (t .next) ≡ analysis (coder-of m) (now (sop .entry)) .next ⌝ }
     ensures larc { λ t. ⌜ t .larc ≡ analysis (coder-of m) (now (sop .entry)) .LARc ⌝ }
     ensures ending { λ t. ⌜ ended (t .ending) ≡ analysis (coder-of m) (now (sop .entry)) .ending ⌝ }
-    ensures samples { λ t. ⌜ now (d .exit) ≡ analysis (coder-of m) (now (sop .entry)) .d ⌝ }
+    ensures samples { λ t. ⌜ now (signal .exit) ≡ analysis (coder-of m) (now (sop .entry)) .d ⌝ }
 {
     let last = m.mp;
     let old = m.larpp;
@@ -82,12 +82,12 @@ pub fn frame(m: Filters, sop: &[i16], d: &mut [i16]) -> Analysed
         sop,
         &mut sof[0..160],
     );
-    let mp = pre_processing::emphasis(last, &sof[0..160], d);
-    let ratios = measured(d);
+    let mp = pre_processing::emphasis(last, &sof[0..160], signal);
+    let ratios = measured(signal);
     let larc = ratios.larc;
     let ending = ratios.ending;
     let new = short_ratios::ratios(larc);
-    let after = short_analysis::filtered(u, old, new, d);
+    let after = short_analysis::filtered(u, old, new, signal);
     Analysed {
         next: Filters {
             z1: kept.z1,

@@ -1,15 +1,16 @@
 -- A sub-frame put together from its stages, in the definition's order.
 use Prim.Native.Nat.{ℕ, _≤_}
 use mathlib.Core.Path.{_≡_, refl}
-use mathlib.Core.List.{List, _∷_, zipWith}
+use mathlib.Core.List.{List, _∷_, _++_, zipWith}
 use lib.IntN.{ℤ, pos, natAbs}
+use lib.ListN.{take}
 use mir.Syntax.{w32}
 use Rattle.standard.specs.Arithmetic.{shr, add, sub, peak}
 use Rattle.standard.specs.Frame.{sub-words}
 use Rattle.law_fields.specs.Gains.{gain-in}
 use Rattle.standard.specs.LongTerm.{scal, lag-search, Nc, L-power, bc, dpp, residual}
 use Rattle.standard.specs.Rpe.{weighted, grid, Mc, xmaxc, amplitude, xMc, xMp, ep, reconstructed}
-use Rattle.standard.specs.Coder.{sub-coded}
+use Rattle.standard.specs.Coder.{Subcoded, sub-coded}
 
 -- 4.2.15: the code of the block amplitude of x's selected grid
 abbrev pub block-code : List ℤ → ℤ
@@ -23,6 +24,13 @@ pulse-codes x = xMc (amplitude (block-code x)) (grid (Mc x) x)
 unfoldable pub added : List ℤ → List ℤ → List ℤ
 added dp d = let f = sub-coded dp d .codes in reconstructed (natAbs (f .Nc)) f dp
 
+-- the two above, of a list that begins with dp[−120..−1]: what the definition makes of the sub-frame, and the history with the new samples
+abbrev pub made : List ℤ → List ℤ → Subcoded
+made dp d = sub-coded (take 120 dp) d
+
+abbrev pub extended : List ℤ → List ℤ → List ℤ
+extended dp d = take 120 dp ++ added (take 120 dp) d
+
 module _ (dp d : List ℤ) where
   -- 4.2.11: the lag and the gain code
   abbrev pub lag : ℕ
@@ -31,12 +39,16 @@ module _ (dp d : List ℤ) where
   abbrev pub gain : ℕ
   gain = bc (shr w32 (lag-search d dp .sum) (sub (pos 6) (scal d))) (L-power lag dp)
 
-  -- 4.2.12, 4.2.13: the estimate; the residual, weighted
+  -- 4.2.12: the estimate and the residual
   abbrev pub estimate : List ℤ
   estimate = dpp lag gain dp
 
+  abbrev pub e : List ℤ
+  e = residual d estimate
+
+  -- 4.2.13: the residual, weighted
   abbrev pub filtered : List ℤ
-  filtered = weighted (residual d estimate)
+  filtered = weighted e
 
   -- the definition's search is this one
   pub search-is : sub-coded dp d .search ≡ lag-search d dp
@@ -54,6 +66,6 @@ module _ (dp d : List ℤ) where
     codes-are el eb = rw (el, eb, em, ec, ex) refl
 
     -- and what it adds is this
-    pub added-is : {e xmp y : List ℤ} → xmp ≡ xMp (amplitude c) xs → e ≡ ep m xmp → y ≡ estimate → zipWith add e y ≡ added dp d
+    pub added-is : {p xmp y : List ℤ} → xmp ≡ xMp (amplitude c) xs → p ≡ ep m xmp → y ≡ estimate → zipWith add p y ≡ added dp d
     unfolding added sub-coded reconstructed
     added-is ep ee ey = rw (ee, ey, ep, em, ec, ex) refl

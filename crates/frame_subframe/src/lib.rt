@@ -9,7 +9,7 @@ ghost use Rattle.standard.specs.Frame.{sub-words};
 ghost use Rattle.standard.specs.LongTerm.{Nc};
 ghost use Rattle.standard.specs.Rpe.{Mc};
 ghost use Rattle.standard.specs.Coder.{sub-coded};
-ghost use Rattle.frame_subframe.specs.Whole.{block-code, pulse-codes, added};
+ghost use Rattle.frame_subframe.specs.Whole.{block-code, pulse-codes, made, extended};
 
 // The 17 codewords in their places.
 fn written(lag: i16, bc: i16, mc: i16, xmaxc: i16, xmc: [i16; 13], c: &mut [i16])
@@ -47,21 +47,23 @@ fn selected(x: [i16; 40]) -> Choice
     }
 }
 
-// dp holds the 120 samples before, and room for the 40 that the sub-frame adds; c is lent the 17 codewords that it fills.
+// One sub-frame. dp holds the last 120 samples of the history, and has room for the 40 that the sub-frame adds. c is the
+// buffer for its 17 codewords.
 pub fn sub_coded(d: &[i16], dp: &mut [i16], c: &mut [i16]) -> Search
     requires { ⌜ (length (now d) ≡ 40) × ((length (now dp) ≡ 160) × (length (now c) ≡ 17)) ⌝ }
-    ensures lag { λ r. ⌜ r .lag ≡ Nc (sub-coded (take 120 (now (dp .entry))) (now (d .entry)) .search) ⌝ }
-    ensures sum { λ r. ⌜ r .sum ≡ sub-coded (take 120 (now (dp .entry))) (now (d .entry)) .search .sum ⌝ }
-    ensures positive { λ r. ⌜ r .positive ≡ ltZ (pos 0) (sub-coded (take 120 (now (dp .entry))) (now (d .entry)) .search .sum) ⌝ }
-    ensures codewords { λ r. ⌜ now (c .exit) ≡ sub-words (sub-coded (take 120 (now (dp .entry))) (now (d .entry)) .codes) ⌝ }
-    ensures history { λ r. ⌜ now (dp .exit) ≡ take 120 (now (dp .entry)) ++ added (take 120 (now (dp .entry))) (now (d .entry)) ⌝ }
+    ensures lag { λ r. ⌜ r .lag ≡ Nc (made (now (dp .entry)) (now (d .entry)) .search) ⌝ }
+    ensures sum { λ r. ⌜ r .sum ≡ made (now (dp .entry)) (now (d .entry)) .search .sum ⌝ }
+    ensures positive { λ r. ⌜ r .positive ≡ ltZ (pos 0) (made (now (dp .entry)) (now (d .entry)) .search .sum) ⌝ }
+    ensures codewords { λ r. ⌜ now (c .exit) ≡ sub-words (made (now (dp .entry)) (now (d .entry)) .codes) ⌝ }
+    ensures history { λ r. ⌜ now (dp .exit) ≡ extended (now (dp .entry)) (now (d .entry)) ⌝ }
 {
     let found = long_search::lag_and_gain(d, &dp[0..120]);
     let search = found.search;
     let lag = search.lag;
     let bc = found.bc;
     let dpp = long_filter::estimate(&dp[0..120], lag, bc);
-    let x = rpe_weighting::weighted(d, dpp);
+    let e = long_filter::residual(d, dpp);
+    let x = rpe_weighting::weighted(e);
     let choice = selected(x);
     let mc = choice.mc;
     let xmaxc = choice.xmaxc;

@@ -18,7 +18,7 @@ use Rattle.law_arithmetic.specs.Clip.{plus-plain, minus-plain, abs-clip}
 use Rattle.law_arithmetic.specs.Shift.{keep-plain}
 use Rattle.op_tables.specs.Facts.{within, LARc-span}
 use Rattle.law_fields.specs.Fit.{fit-is}
-use Rattle.rpe_quantise.specs.Shifts.{twice, raised}
+use Rattle.rpe_inverse.specs.Shifts.{twice, raised}
 
 -- z << n at width w, with all its bits
 abbrev pub Exact : Width → ℤ → ℕ → Type 0

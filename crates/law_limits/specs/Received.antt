@@ -20,7 +20,7 @@ use Rattle.standard.specs.House.{fit}
 use Rattle.law_arithmetic.specs.Clip.{plus-fits}
 use Rattle.law_fields.specs.Samples.{sample-word}
 use Rattle.law_fields.specs.Valid.{low-bits, low-bits-fit}
-use Rattle.rpe_quantise.specs.Shifts.{twice, half-up}
+use Rattle.rpe_inverse.specs.Shifts.{twice, half-up}
 use Rattle.frame_received.specs.Sub.{field-fit}
 use Rattle.frame_received.specs.Received.{sub-frame, sub-frames, ratio-words, received-is}
 use Rattle.law_limits.specs.Exact.{Exact, ExactBy, code-up, B-up, ratio-up, pulse-up}

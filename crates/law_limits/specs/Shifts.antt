@@ -31,7 +31,8 @@ use Rattle.law_fields.specs.Pulses.{grid-words, pulses-fit}
 use Rattle.lpc_autocorrelation.specs.Scale.{scaled-by, rescaled-exact, rescaled-at-four}
 use Rattle.lpc_autocorrelation.specs.Bounds.{ACF-exact}
 use Rattle.long_search.specs.Bounds.{scal-range, power-in, gain-exact}
-use Rattle.rpe_quantise.specs.Shifts.{exp-up, pulses-up, twice, half-up}
+use Rattle.rpe_quantise.specs.Shifts.{exp-up, pulses-up}
+use Rattle.rpe_inverse.specs.Shifts.{twice, half-up}
 use Rattle.law_limits.specs.Signals.{memory, s, scale, small, sums, part, history, lag, L-max, L-pow, e, x, xM, exp}
 use Rattle.law_limits.specs.Words.{Carried, s-length, small-length, s-words, history-words, history-length}
 use Rattle.law_limits.specs.Sizes.{small-sizes}

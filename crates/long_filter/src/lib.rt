@@ -1,10 +1,11 @@
-// 4.2.12, 4.2.18, 4.3.2: the long term predictor: the lag in use, the estimate from the history, and what a sub-frame adds to it.
+// 4.2.12, 4.2.18, 4.3.2: long term filtering: the lag in use, the estimate from the history, the residual, and what a
+// sub-frame adds to the history.
 ghost use mathlib.Core.Path.{_≡_};
 ghost use mathlib.Core.List.{zipWith};
 ghost use Prim.Native.Nat.{_≤_};
 ghost use lib.ListN.{length};
 ghost use Rattle.standard.specs.Arithmetic.{add};
-ghost use Rattle.standard.specs.LongTerm.{dpp};
+ghost use Rattle.standard.specs.LongTerm.{dpp, residual};
 ghost use Rattle.standard.specs.Decoder.{Nr};
 
 // 4.3.2: the received lag, or the remembered one where that is no lag from 40 to 120.
@@ -17,7 +18,8 @@ pub fn used_lag(nrp: i16, ncr: i16) -> i16
     if 120 < ncr { nrp } else { ncr }
 }
 
-// 4.2.12: the estimate, from the 120 samples before and a gain code. No lag from 40 on reaches what is not there yet.
+// 4.2.12: the estimate dpp, from the last 120 samples and a gain code. A lag of 40 or more needs no sample of this
+// sub-frame.
 pub fn estimate(dp: &[i16], lag: usize, bc: usize) -> [i16; 40]
     requires { ⌜ (length (now dp) ≡ 120) × ((40 ≤ lag) × (lag ≤ 120)) ⌝ }
     ensures { λ r. ⌜ r ≡ dpp lag bc (now (dp .entry)) ⌝ }
@@ -28,6 +30,19 @@ pub fn estimate(dp: &[i16], lag: usize, bc: usize) -> [i16; 40]
         dpp[k] = op_words::mult_r(b, dp[120 - lag + k]);
     }
     dpp
+}
+
+// 4.2.12: the long term residual e, which is d less its estimate.
+pub fn residual(d: &[i16], dpp: [i16; 40]) -> [i16; 40]
+    requires { ⌜ length (now d) ≡ 40 ⌝ }
+    ensures { λ r. ⌜ r ≡ residual (now (d .entry)) dpp ⌝ }
+{
+    let mut e = [0i16; 40];
+    for k in 0..40usize {
+        let estimate = dpp[k];
+        e[k] = op_words::sub(d[k], estimate);
+    }
+    e
 }
 
 // 4.2.18: the 40 samples that a sub-frame adds to the history, pulses and estimate together.

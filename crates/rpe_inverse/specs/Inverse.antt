@@ -6,20 +6,19 @@ use mathlib.Core.List.{List, map}
 use native.Mathlib.Omega.{arith}
 use native.Mathlib.Nat.{mul-le-mul}
 use lib.Dec.{leb}
-use lib.IntN.{ℤ, pos, _+ℤ_, _-ℤ_, _*ℤ_, natAbs}
+use lib.IntN.{ℤ, pos, _+ℤ_, _*ℤ_}
 use lib.Signed.{leZ}
 use mir.Syntax.{w16}
 use mir.Val.{SFits, toZ}
 use borrow.Author.Tests.{leb-true}
-use Rattle.math_integers.specs.Halves.{P, N, apart, zar, know, abs-is}
-use Rattle.math_integers.specs.Sums.{add-is, minus-is, mul-is, shr-is}
+use Rattle.math_integers.specs.Halves.{P, N, apart, zar, know}
+use Rattle.math_integers.specs.Sums.{add-is, mul-is, shr-is}
 use Rattle.math_lists.specs.Every.{every, every-tab}
 use Rattle.math_lists.specs.Tab.{tab}
 use Rattle.math_lists.specs.For.{tab-each}
 use Rattle.standard.specs.Arithmetic.{clip, modulo, keep, minus, _>>_, _<<_, shl, shr, add, sub, mult-r}
 use Rattle.standard.specs.Tables.{_at_, FAC}
 use Rattle.standard.specs.Rpe.{Amplitude, xMp}
-use Rattle.law_arithmetic.specs.Clip.{minus-clip}
 use Rattle.law_arithmetic.specs.Shift.{modulo-below, modulo-scaled}
 use Rattle.law_arithmetic.specs.Product.{mult-r-plain}
 
@@ -64,14 +63,6 @@ module _ (a x : ℤ) (f : SFits w16 a) (g : SFits w16 x) (above : leZ (pos 0) a 
 -- a pulse, from the mantissa, the shift and the rounding term
 abbrev pub pulse : ℤ → ℕ → ℤ → ℤ → ℤ
 pulse temp1 temp2 temp3 xMc = add (mult-r temp1 (sub (xMc << 1) (pos 7) << 12)) temp3 >> temp2
-
--- an exponent from −4 to 6 has a shift from 0 to 10, which meets no clip
-pub shift-in : (e : ℤ) → P e ≤ 6 → N e ≤ 4 → let t = natAbs (pos 6 -ℤ e) in (t ≤ 10) × (sub (pos 6) e ≡ pos t)
-shift-in e p n =
-    let d = pos 6 -ℤ e in
-    let a = minus-is (pos 6) e in
-    let b = abs-is d in
-    (omega (arith, apart e, apart d), omega (zar, apart e, apart d, minus-clip w16 (pos 6) e))
 
 -- 1 << (temp2 − 1), by the shift
 halves : tab (λ t. shl w16 (pos 1) (sub (pos t) (pos 1))) 0 11 ≡ tab (λ t. pos (2 ^ t / 2)) 0 11

@@ -1,3 +1,3 @@
-pub mod Doubling
+-- The laws of 4.2.16: what a pulse comes to, and its left shifts.
 pub mod Inverse
-pub mod Promise
+pub mod Shifts

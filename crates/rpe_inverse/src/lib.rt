@@ -1,54 +1,13 @@
-// 4.2.15 to 4.2.17: from a block amplitude and its pulses back to the samples on the grid, as both ends do it.
+// 4.2.16, 4.2.17: from a block amplitude and its pulses back to the samples on the grid, as both ends do it.
 ghost use mathlib.Core.Path.{_≡_};
 ghost use mathlib.Core.Bool.{true};
-ghost use Prim.Native.Nat.{suc, _*_, _^_, _≤_};
-ghost use lib.Dec.{leb};
+ghost use Prim.Native.Nat.{_^_, _≤_};
 ghost use lib.IntN.{pos};
 ghost use lib.Signed.{leZ, shrZ};
-ghost use Rattle.math_lists.specs.First.{first};
 ghost use Rattle.standard.specs.Arithmetic.{up, add, sub, mult-r};
 ghost use mir.Syntax.{w16};
 ghost use Rattle.standard.specs.House.{fit};
 ghost use Rattle.standard.specs.Rpe.{amplitude, xMp, ep};
-
-// The decoded block amplitude: exponent from -4 to 6, mantissa from 0 to 7.
-pub struct Amplitude {
-    pub exp: i16,
-    pub mant: usize,
-}
-
-// 4.2.15: how often a mantissa is doubled, plus 1, until it is above 7.
-fn doublings(mant: usize) -> usize
-    ensures { λ r. ⌜ r ≡ first (λ n. leb 9 (suc mant * 2 ^ n)) 4 0 ⌝ }
-{
-    if mant < 1 {
-        4
-    } else if mant < 2 {
-        3
-    } else if mant < 4 {
-        2
-    } else if mant < 8 {
-        1
-    } else {
-        0
-    }
-}
-
-// 4.2.15: exponent and mantissa of a block amplitude.
-pub fn exp_and_mant(xmaxc: i16) -> Amplitude
-    requires { ⌜ fit 6 xmaxc ≡ true ⌝ }
-    ensures exp { λ r. ⌜ r .exp ≡ amplitude xmaxc .exp ⌝ }
-    ensures mant { λ r. ⌜ r .mant ≡ amplitude xmaxc .mant ⌝ }
-{
-    let code = xmaxc as usize;
-    let exp = if code <= 15 { 0 } else { code / 8 - 1 };
-    let mant = code - 8 * exp;
-    let n = doublings(mant);
-    Amplitude {
-        exp: exp as i16 - n as i16,
-        mant: (mant + 1) * (1usize << n) - 9,
-    }
-}
 
 // 4.2.16: one pulse. A mantissa is not negative and the rounding term is small, so that neither the product nor the sum meets a limit.
 fn pulse(temp1: i16, temp2: u16, temp3: i16, xmc: i16) -> i16
@@ -65,7 +24,7 @@ pub fn inverse(xmaxc: i16, xmc: [i16; 13]) -> [i16; 13]
     requires { ⌜ fit 6 xmaxc ≡ true ⌝ }
     ensures { λ r. ⌜ r ≡ xMp (amplitude xmaxc) xmc ⌝ }
 {
-    let a = exp_and_mant(xmaxc);
+    let a = rpe_quantise::exp_and_mant(xmaxc);
     let temp1 = op_tables::mantissa_fac(a.mant);
     let temp2 = (6 - a.exp) as u16;
     let temp3 = if temp2 == 0 { 0 } else { 1i16 << (temp2 - 1) };

@@ -1,16 +1,18 @@
-// 4.2.15: APCM quantization of the selected RPE sequence: the block amplitude's code and the codes of the thirteen pulses.
-use rpe_inverse::Amplitude;
+// 4.2.15, APCM quantization of the selected RPE sequence: the code of the block amplitude, its exponent and mantissa, and
+// the codes of the thirteen pulses.
 ghost use mathlib.Core.Path.{_≡_};
 ghost use mathlib.Core.Bool.{true};
-ghost use Prim.Native.Nat.{_≤_};
+ghost use Prim.Native.Nat.{suc, _*_, _^_, _≤_};
+ghost use lib.Dec.{leb};
 ghost use lib.IntN.{pos};
 ghost use lib.Signed.{leZ, shrZ};
 ghost use mir.Syntax.{w16};
+ghost use Rattle.math_lists.specs.First.{first};
 ghost use Rattle.standard.specs.Arithmetic.{up, add, mult};
 ghost use Rattle.standard.specs.House.{fit};
 ghost use Rattle.standard.specs.Rpe.{exponent, xmaxc, amplitude, xMc};
 
-// The halvings that bring xmax >> 9 to 0, no more than 6.
+// The exponent of the block amplitude xmax: the halvings that bring xmax >> 9 to 0, at most 6.
 fn exponent(xmax: i16) -> usize
     ensures { λ r. ⌜ r ≡ exponent xmax ⌝ }
 {
@@ -39,6 +41,45 @@ pub fn xmaxc(xmax: i16) -> i16
     (xmax >> (exp + 5)) + ((exp as i16) << 3)
 }
 
+// The decoded block amplitude: exponent from -4 to 6, mantissa from 0 to 7.
+pub struct Amplitude {
+    pub exp: i16,
+    pub mant: usize,
+}
+
+// How often a mantissa, plus 1, is doubled until it is above 8.
+fn doublings(mant: usize) -> usize
+    ensures { λ r. ⌜ r ≡ first (λ n. leb 9 (suc mant * 2 ^ n)) 4 0 ⌝ }
+{
+    if mant < 1 {
+        4
+    } else if mant < 2 {
+        3
+    } else if mant < 4 {
+        2
+    } else if mant < 8 {
+        1
+    } else {
+        0
+    }
+}
+
+// Exponent and mantissa of the code of a block amplitude, as both ends decode it.
+pub fn exp_and_mant(xmaxc: i16) -> Amplitude
+    requires { ⌜ fit 6 xmaxc ≡ true ⌝ }
+    ensures exp { λ r. ⌜ r .exp ≡ amplitude xmaxc .exp ⌝ }
+    ensures mant { λ r. ⌜ r .mant ≡ amplitude xmaxc .mant ⌝ }
+{
+    let code = xmaxc as usize;
+    let exp = if code <= 15 { 0 } else { code / 8 - 1 };
+    let mant = code - 8 * exp;
+    let n = doublings(mant);
+    Amplitude {
+        exp: exp as i16 - n as i16,
+        mant: (mant + 1) * (1usize << n) - 9,
+    }
+}
+
 // The code of one pulse. Both shifts to the right, 15 of mult and 12, are done at once; what is left has three bits and a sign.
 fn pulse_code(temp1: u16, temp2: i16, xm: i16) -> i16
     requires { ⌜ (temp1 ≤ 10) × (leZ (pos 0) temp2 ≡ true) ⌝ }
@@ -52,7 +93,7 @@ pub fn pulse_codes(code: i16, xm: [i16; 13]) -> [i16; 13]
     requires { ⌜ fit 6 code ≡ true ⌝ }
     ensures { λ r. ⌜ r ≡ xMc (amplitude code) xm ⌝ }
 {
-    let a = rpe_inverse::exp_and_mant(code);
+    let a = exp_and_mant(code);
     let temp1 = (6 - a.exp) as u16;
     let temp2 = op_tables::mantissa_nrfac(a.mant);
     let mut xmc = [0i16; 13];

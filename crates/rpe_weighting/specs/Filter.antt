@@ -1,5 +1,5 @@
--- 4.2.12, 4.2.13: the residual with its zeros, and the weighting filter. No step of its sum meets a limit, so the sum may be taken in any
--- order, and the two doublings with a limit and the high word are one shift with one limit.
+-- 4.2.13: the residual between its zeros, and the weighting filter. No step of the filter's sum saturates, so the sum may be taken in
+-- any order; and the two doublings that saturate, with the high word, are one shift and one clip.
 use Prim.Native.Nat.{ℕ, _+_, _*_, _<_, _≤_, min}
 use mathlib.Core.Path.{_≡_, refl, sym, ap, _∙_}
 use mathlib.Core.List.{List, [], _∷_, _++_, foldl, map, zipWith}
@@ -44,11 +44,6 @@ module _ (e : List ℤ) (l : length e ≡ 40) where
   -- once the forty are stored in an array of zeros, it is all there
   pub around-end : (k : ℕ) → k ≡ 40 → filled (5 + k) (around e) (replicate 50 (pos 0)) ≡ around e
   around-end k h = rw (h, take-at e (replicate 5 (pos 0)) 40 l) refl
-
--- e[k] is d[k] less the estimate
-pub residual-at : (d dpp : List ℤ) (k : ℕ) → k < length d → k < length dpp → residual d dpp at k ≡ sub (d at k) (dpp at k)
-unfolding residual
-residual-at d dpp k p q = zip-at sub d dpp k (pos 0) (pos 0) (pos 0) p q
 
 -- ---- the filter looks at eleven samples
 

@@ -1,5 +1,5 @@
-// 4.2.12 to 4.2.14: the residual less its estimate, the weighting filter, the choice of the grid. The filter's sum and a grid's energy never
-// meet their limit (01, sums (e) and (f)): they are plain additions. What can meet one are the filter's two doublings.
+// 4.2.13, 4.2.14: the weighting filter and the choice of the grid. The filter's sum and a grid's energy never saturate
+// (house rules, 'Six sums' (e) and (f)), so they are plain additions. The filter's two doublings can saturate.
 use op_sums::Found;
 ghost use mathlib.Core.Path.{_≡_};
 ghost use mathlib.Core.Bool.{true};
@@ -8,20 +8,17 @@ ghost use Prim.Native.Nat.{_*_, _≤_};
 ghost use lib.IntN.{pos, _+ℤ_, _*ℤ_, natAbs};
 ghost use lib.ListN.{length, replicate};
 ghost use Rattle.math_lists.specs.Every.{every};
-ghost use Rattle.standard.specs.LongTerm.{residual};
 ghost use Rattle.standard.specs.Rpe.{filtered, weighted, grid, Mc};
 ghost use Rattle.op_sums.specs.Room.{at-most};
 ghost use Rattle.rpe_weighting.specs.Energy.{squared, total};
 
-// 4.2.12, 4.2.13: wt[0..49], which is e[0..39] with five zeros on either side; e is d less the estimate.
-fn surrounded(d: &[i16], dpp: [i16; 40]) -> [i16; 50]
-    requires { ⌜ length (now d) ≡ 40 ⌝ }
-    ensures { λ r. ⌜ r ≡ replicate 5 (pos 0) ++ (residual (now (d .entry)) dpp ++ replicate 5 (pos 0)) ⌝ }
+// 4.2.13: wt[0..49], which is e[0..39] with five zeros on either side.
+fn surrounded(e: [i16; 40]) -> [i16; 50]
+    ensures { λ r. ⌜ r ≡ replicate 5 (pos 0) ++ (e ++ replicate 5 (pos 0)) ⌝ }
 {
     let mut wt = [0i16; 50];
     for k in 0..40usize {
-        let estimate = dpp[k];
-        wt[5 + k] = op_words::sub(d[k], estimate);
+        wt[5 + k] = e[k];
     }
     wt
 }
@@ -46,12 +43,11 @@ fn filtered(wt: &[i16]) -> i16
     op_words::clip_word((outer + inner + 8192 * wt[5] as i32 + 4096) >> 13)
 }
 
-// 4.2.12, 4.2.13: x[0..39].
-pub fn weighted(d: &[i16], dpp: [i16; 40]) -> [i16; 40]
-    requires { ⌜ length (now d) ≡ 40 ⌝ }
-    ensures { λ r. ⌜ r ≡ weighted (residual (now (d .entry)) dpp) ⌝ }
+// 4.2.13: x[0..39] of the long term residual e[0..39].
+pub fn weighted(e: [i16; 40]) -> [i16; 40]
+    ensures { λ r. ⌜ r ≡ weighted e ⌝ }
 {
-    let wt = surrounded(d, dpp);
+    let wt = surrounded(e);
     let mut x = [0i16; 40];
     for k in 0..40usize {
         x[k] = filtered(&wt[k..k + 11]);

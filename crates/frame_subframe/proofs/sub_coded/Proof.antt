@@ -1,3 +1,5 @@
+-- The stages in the definition's order: each answer is the definition's by that of the stage before, from the lag search to the new
+-- samples of the history.
 use Prim.Native.Nat.{ℕ, _≤_}
 use mathlib.Core.Path.{_≡_, sym, ap, ap₂, _∙_}
 use mathlib.Core.List.{List, _∷_, _++_, zipWith}
@@ -18,7 +20,7 @@ use Rattle.law_lengths.specs.Subframes.{found-lag}
 use Rattle.law_fields.specs.Amplitudes.{peak-in, xmaxc-fits}
 use Rattle.law_fields.specs.Pulses.{grid-in}
 use Rattle.long_history.specs.Window.{put-last}
-use Rattle.frame_subframe.specs.Whole.{block-code, pulse-codes, lag, gain, estimate, filtered, added}
+use Rattle.frame_subframe.specs.Whole.{block-code, pulse-codes, lag, gain, estimate, e, filtered, added}
 use Rattle.frame_subframe.specs.Whole.{search-is, gain-range, codes-are, added-is}
 use Rattle.frame_subframe.proofs.sub_coded.Statement.{statement}
 use Rattle.frame_subframe.proofs.sub_coded.Tie as tie
@@ -42,62 +44,79 @@ module _ (g : tie.After-lag-and-gain) where
   abbrev start : tie.Start
   start = g .before .before .before
 
-  lag-is : g .lag-and-gain .result .search .lag ≡ lag (dp-of start) (d-of start)
+  abbrev dp : List ℤ
+  dp = dp-of start
+
+  abbrev d : List ℤ
+  d = d-of start
+
+  lag-is : g .lag-and-gain .result .search .lag ≡ lag dp d
   lag-is = g .lag-and-gain .ensures .0
 
-  gain-is : g .lag-and-gain .result .bc ≡ gain (dp-of start) (d-of start)
+  gain-is : g .lag-and-gain .result .bc ≡ gain dp d
   gain-is = g .lag-and-gain .ensures .1 .1 .1
 
 estimate-requires : tie.Need-estimate-requires
 estimate-requires c κs =
     let g = c .before .before .before in
-    let t = found-lag (d-of (start g)) (dp-of (start g)) in
+    let t = found-lag (d g) (dp g) in
     (search needs, (omega (arith, lag-is g, t .least), omega (arith, lag-is g, t .most)))
 
 -- 4.2.12: the estimate
-estimate-is : (e : tie.After-estimate) → let s = start (e .before .before .before .before) in e .estimate .result ≡ estimate (dp-of s) (d-of s)
-estimate-is e =
-    let g = e .before .before .before .before in
-    let f = g .lag-and-gain .result in
-    let given : e .estimate .result ≡ dpp (f .search .lag) (f .bc) (dp-of (start g)) = e .estimate .ensures in
-    given ∙ ap₂ (λ (l b : ℕ). dpp l b (dp-of (start g))) (lag-is g) (gain-is g)
+module _ (p : tie.After-estimate) where
+  abbrev searched : tie.After-lag-and-gain
+  searched = p .before .before .before .before
 
-weighted-requires : tie.Need-weighted-requires
-weighted-requires c κs = search needs
+  estimate-is : p .estimate .result ≡ estimate (dp searched) (d searched)
+  estimate-is =
+      let f = searched .lag-and-gain .result in
+      let given : p .estimate .result ≡ dpp (f .search .lag) (f .bc) (dp searched) = p .estimate .ensures in
+      given ∙ ap₂ (λ (l b : ℕ). dpp l b (dp searched)) (lag-is searched) (gain-is searched)
 
--- 4.2.13: x
-x-is : (w : tie.After-weighted) → let s = start (w .before .before .before .before .before) in w .weighted .result ≡ filtered (dp-of s) (d-of s)
-x-is w =
-    let s = start (w .before .before .before .before .before) in
-    w .weighted .ensures ∙ ap (λ (e : List ℤ). weighted (residual (d-of s) e)) (estimate-is (w .before))
+residual-requires : tie.Need-residual-requires
+residual-requires c κs = search needs
 
--- 4.2.14, 4.2.15: what was selected
+-- 4.2.12: the residual
+module _ (q : tie.After-residual) where
+  abbrev estimated : tie.After-estimate
+  estimated = q .before
+
+  abbrev predicted : tie.After-lag-and-gain
+  predicted = searched estimated
+
+  e-is : q .residual .result ≡ e (dp predicted) (d predicted)
+  e-is = q .residual .ensures ∙ ap (residual (d predicted)) (estimate-is estimated)
+
+-- 4.2.13 to 4.2.15: the weighted residual, and what was selected of it
 module _ (k : tie.After-selected) where
-  abbrev before : tie.Start
-  before = start (k .before .before .before .before .before .before)
+  -- the residual, the estimate and the search before it
+  abbrev filtering : tie.After-residual
+  filtering = k .before .before
+
+  abbrev found : tie.After-lag-and-gain
+  found = predicted filtering
 
   abbrev x : List ℤ
-  x = filtered (dp-of before) (d-of before)
+  x = filtered (dp found) (d found)
+
+  x-is : k .before .weighted .result ≡ x
+  x-is = k .before .weighted .ensures ∙ ap weighted (e-is filtering)
 
   mc-is : k .selected .result .mc ≡ Mc x
-  mc-is = k .selected .ensures .0 ∙ ap Mc (x-is (k .before))
+  mc-is = k .selected .ensures .0 ∙ ap Mc x-is
 
   xmaxc-is : k .selected .result .xmaxc ≡ block-code x
-  xmaxc-is = k .selected .ensures .1 .0 ∙ ap block-code (x-is (k .before))
+  xmaxc-is = k .selected .ensures .1 .0 ∙ ap block-code x-is
 
   xmc-is : k .selected .result .xmc ≡ pulse-codes x
-  xmc-is = k .selected .ensures .1 .1 ∙ ap pulse-codes (x-is (k .before))
-
-  -- the search before it
-  abbrev found : tie.After-lag-and-gain
-  found = k .before .before .before .before .before .before
+  xmc-is = k .selected .ensures .1 .1 ∙ ap pulse-codes x-is
 
   -- the lag, the gain code, the grid and the amplitude's code are words
   lag-word : SFits w16 (pos (found .lag-and-gain .result .search .lag))
-  lag-word = let t = found-lag (d-of before) (dp-of before) in omega (zar, lag-is found, t .most)
+  lag-word = let t = found-lag (d found) (dp found) in omega (zar, lag-is found, t .most)
 
   gain-word : SFits w16 (pos (found .lag-and-gain .result .bc))
-  gain-word = omega (zar, gain-is found, gain-range (dp-of before) (d-of before))
+  gain-word = omega (zar, gain-is found, gain-range (dp found) (d found))
 
   grid-word : SFits w16 (pos (k .selected .result .mc))
   grid-word = omega (zar, mc-is, grid-in x)
@@ -119,57 +138,63 @@ cast-written-2 c = let (l, b, m) = words-fit (c .before .before) in search needs
 cast-written-3 : tie.Need-cast-written-3
 cast-written-3 c = let (l, b, m) = words-fit (c .before .before) in search needs
 
+-- the codewords, as they were written
+module _ (w : tie.After-written) where
+  abbrev chosen : tie.After-selected
+  chosen = w .before .before .before .before
+
+  stored : let f = found chosen .lag-and-gain .result in
+      let q = chosen .selected .result in
+      w .written .last .1 .1 .1 .1 .1 .0 ≡ pos (f .search .lag) ∷ pos (f .bc) ∷ pos (q .mc) ∷ q .xmaxc ∷ q .xmc
+  stored =
+      rw (back (lag-word chosen), back (gain-word chosen), back (grid-word chosen), back (code-word chosen)) at (w .written .ensures)
+
 inverse-requires : tie.Need-inverse-requires
 inverse-requires c κs =
-    let k = c .before .before .before .before .before in
+    let k = chosen (c .before) in
     rw (back (code-word k), xmaxc-is k) (xmaxc-fits (peak (grid (Mc (x k)) (x k))) (peak-in (grid (Mc (x k)) (x k))))
 
 positioned-requires : tie.Need-positioned-requires
-positioned-requires c κs =
-    let k = c .before .before .before .before .before .before in
-    omega (arith, mc-is k, grid-in (x k))
+positioned-requires c κs = let k = chosen (c .before .before) in omega (arith, mc-is k, grid-in (x k))
 
--- the codewords as they were written
-stored : (w : tie.After-written)
-    → let k = w .before .before .before .before in
-    let f = found k .lag-and-gain .result in
-    let q = k .selected .result in
-    w .written .last .1 .1 .1 .1 .1 .0 ≡ pos (f .search .lag) ∷ pos (f .bc) ∷ pos (q .mc) ∷ q .xmaxc ∷ q .xmc
-stored w =
-    let k = w .before .before .before .before in
-    rw (back (lag-word k), back (gain-word k), back (grid-word k), back (code-word k)) at (w .written .ensures)
+part-reconstructed-end : tie.Need-part-reconstructed-end
+part-reconstructed-end c = let h = length-kept (start (found (chosen (c .before .before .before)))) in search needs
 
--- 4.2.18: the new samples, the pulses that went through the quantiser added to the estimate
-new-are : (r : tie.After-reconstructed)
-    → let s = before (r .before .before .before .before .before .before .before .before .before) in
-    r .reconstructed .last .1 .1 .0 ≡ added (dp-of s) (d-of s)
-new-are r =
-    let p = r .before .before in
-    let k = p .before .before .before .before .before .before .before in
-    let e = k .before .before in
-    let s = before k in
-    let given : r .reconstructed .last .1 .1 .0 ≡ zipWith add (p .positioned .result) (e .estimate .result) = r .reconstructed .ensures in
-    let pulses = rw (back (code-word k)) at (p .before .inverse .ensures) in
-    given ∙ added-is (dp-of s) (d-of s) (mc-is k) (xmaxc-is k) (xmc-is k) pulses (p .positioned .ensures) (estimate-is e)
+-- 4.2.16 to 4.2.18: the pulses that went through the quantiser, added to the estimate
+module _ (r : tie.After-reconstructed) where
+  abbrev placed : tie.After-positioned
+  placed = r .before .before
+
+  abbrev sent : tie.After-written
+  sent = placed .before .before .before
+
+  abbrev code : tie.After-selected
+  code = chosen sent
+
+  new-are : r .reconstructed .last .1 .1 .0 ≡ added (dp (found code)) (d (found code))
+  new-are =
+      let known = estimated (filtering code) in
+      let given : r .reconstructed .last .1 .1 .0 ≡ zipWith add (placed .positioned .result) (known .estimate .result) = r .reconstructed .ensures in
+      let pulses = rw (back (code-word code)) at (placed .before .inverse .ensures) in
+      given
+      ∙ added-is (dp (found code)) (d (found code)) (mc-is code) (xmaxc-is code) (xmc-is code) pulses (placed .positioned .ensures)
+      (estimate-is known)
 
 returns : tie.Need-returns
 returns c =
     let r = c .before in
-    let w = r .before .before .before .before .before in
-    let k = w .before .before .before .before in
+    let k = code r in
     let g = found k in
-    let s = before k in
-    let dp = dp-of s in
-    let d = d-of s in
-    let found-is = sym (search-is dp d) in (
+    let s = start g in
+    let found-is = sym (search-is (dp g) (d g)) in (
       lag-is g ∙ ap Nc found-is,
       (
         g .lag-and-gain .ensures .1 .0 ∙ ap (λ (b : Best). b .sum) found-is,
         (
           g .lag-and-gain .ensures .1 .1 .0 ∙ ap (λ (b : Best). ltZ (pos 0) (b .sum)) found-is,
           (
-            stored w ∙ codes-are dp d (mc-is k) (xmaxc-is k) (xmc-is k) (lag-is g) (gain-is g),
-            put-last (s .args .dp .now) _ (s .pre .1 .0) ∙ ap (dp ++_) (new-are r),
+            stored (sent r) ∙ codes-are (dp g) (d g) (mc-is k) (xmaxc-is k) (xmc-is k) (lag-is g) (gain-is g),
+            put-last (s .args .dp .now) _ (s .pre .1 .0) ∙ ap (dp g ++_) (new-are r),
           ),
         ),
       ),
@@ -187,7 +212,8 @@ sub-coded-spec =
     (λ c. search needs)
     (λ c. search needs)
     estimate-requires
-    weighted-requires
+    residual-requires
+    (λ c κs. search needs)
     (λ c κs. search needs)
     cast-written
     cast-written-2
@@ -197,7 +223,7 @@ sub-coded-spec =
     positioned-requires
     (λ c. search needs)
     (λ c. search needs)
-    (λ c. let h = length-kept (before (c .before .before .before .before .before .before .before)) in search needs)
+    part-reconstructed-end
     (λ c κs. search needs)
     (λ c. search needs)
     (λ c. search needs)

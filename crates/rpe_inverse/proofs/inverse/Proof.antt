@@ -19,8 +19,8 @@ use Rattle.standard.specs.Tables.{_at_, FAC}
 use Rattle.standard.specs.Rpe.{amplitude}
 use Rattle.law_arithmetic.specs.Shift.{up-bits}
 use Rattle.op_tables.specs.Facts.{FAC-above}
-use Rattle.rpe_inverse.specs.Doubling.{exp-range}
-use Rattle.rpe_inverse.specs.Inverse.{pulse, shift-in, up-half, xMp-is}
+use Rattle.rpe_quantise.specs.Doubling.{exp-range, shift-in}
+use Rattle.rpe_inverse.specs.Inverse.{pulse, up-half, xMp-is}
 use Rattle.rpe_inverse.proofs.inverse.Statement.{statement}
 use Rattle.rpe_inverse.proofs.inverse.Tie as tie
 

@@ -18,8 +18,7 @@ use Rattle.standard.specs.Arithmetic.{sub}
 use Rattle.standard.specs.Tables.{_at_, NRFAC}
 use Rattle.standard.specs.Rpe.{amplitude}
 use Rattle.op_tables.specs.Facts.{NRFAC-above}
-use Rattle.rpe_inverse.specs.Doubling.{exp-range}
-use Rattle.rpe_inverse.specs.Inverse.{shift-in}
+use Rattle.rpe_quantise.specs.Doubling.{exp-range, shift-in}
 use Rattle.rpe_quantise.specs.Pulse.{code, xMc-is}
 use Rattle.rpe_quantise.proofs.pulse_codes.Statement.{statement}
 use Rattle.rpe_quantise.proofs.pulse_codes.Tie as tie

@@ -19,10 +19,10 @@ abbrev outs : List ℤ → List ℤ
 outs wt = tab (λ k. filtered (drop k wt)) 0 40
 
 abbrev Inv-loop : tie.InvT-loop
-Inv-loop d wt x₀ k₀ x k = (k ≤ 40) × (length x ≡ 40) × (x ≡ filled k (outs wt) x₀)
+Inv-loop wt x₀ k₀ x k = (k ≤ 40) × (length x ≡ 40) × (x ≡ filled k (outs wt) x₀)
 
 abbrev μ-loop : tie.MeasureT-loop
-μ-loop d wt x₀ k₀ x k = 40 - k
+μ-loop wt x₀ k₀ x k = 40 - k
 
 loop-holds : tie.Need-loop-holds Inv-loop μ-loop
 loop-holds c = (search needs, refl, refl)

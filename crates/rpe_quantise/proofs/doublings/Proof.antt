@@ -1,8 +1,8 @@
 use Prim.Native.Nat.{_<_, _≤_}
 use native.Mathlib.Omega.{arith}
-use Rattle.rpe_inverse.specs.Doubling.{doubled-by}
-use Rattle.rpe_inverse.proofs.doublings.Statement.{statement}
-use Rattle.rpe_inverse.proofs.doublings.Tie as tie
+use Rattle.rpe_quantise.specs.Doubling.{doubled-by}
+use Rattle.rpe_quantise.proofs.doublings.Statement.{statement}
+use Rattle.rpe_quantise.proofs.doublings.Tie as tie
 
 returns : tie.Need-returns
 returns c =

@@ -2,7 +2,7 @@
 use mathlib.Core.Path.{_≡_, sym, _∙_}
 use Prim.Native.Nat.{ℕ}
 use lib.IntN.{ℤ}
-use Rattle.rpe_inverse.specs.declared.Amplitude.{Amplitude}
+use Rattle.rpe_quantise.specs.declared.Amplitude.{Amplitude}
 use Rattle.standard.specs.Rpe.{amplitude}
 
 abbrev made : ℤ → ℕ → Amplitude

@@ -15,9 +15,9 @@ use Rattle.math_integers.specs.Ranges.{back}
 use Rattle.math_lists.specs.First.{first-le}
 use Rattle.law_fields.specs.Fit.{fit-is}
 use Rattle.law_fields.specs.Amplitudes.{exp-of}
-use Rattle.rpe_inverse.specs.Doubling.{doubled-above, amplitude-is}
-use Rattle.rpe_inverse.proofs.exp_and_mant.Statement.{statement}
-use Rattle.rpe_inverse.proofs.exp_and_mant.Tie as tie
+use Rattle.rpe_quantise.specs.Doubling.{doubled-above, amplitude-is}
+use Rattle.rpe_quantise.proofs.exp_and_mant.Statement.{statement}
+use Rattle.rpe_quantise.proofs.exp_and_mant.Tie as tie
 
 -- the code, from 0 to 63
 code : (c : tie.Start) → (natAbs (mem w16 (c .args .xmaxc)) < 64) × (N (c .args .xmaxc) ≡ 0)

@@ -1,4 +1,4 @@
--- 4.2.15: how often a mantissa is doubled until it is above 7, and what exponent and mantissa come of a code.
+-- 4.2.15: how often a mantissa is doubled until it is above 7, and which exponent and mantissa a code has.
 use Prim.Native.Nat.{ℕ, suc, _*_, _-_, _^_, _<_, _≤_}
 use mathlib.Core.Path.{_≡_, refl, sym}
 use mathlib.Core.Bool.{Bool, true}
@@ -8,12 +8,15 @@ use native.Mathlib.Omega.{arith}
 use lib.Dec.{leb}
 use lib.IntN.{ℤ, pos, _-ℤ_, natAbs}
 use lib.Pow.{pow-mono}
+use mir.Syntax.{w16}
 use borrow.Author.Tests.{leb-true, le-leb, lt-leb}
-use Rattle.math_integers.specs.Halves.{P, N, le-or-lt, abs-is}
+use Rattle.math_integers.specs.Halves.{P, N, apart, le-or-lt, zar, abs-is}
 use Rattle.math_integers.specs.Sums.{minus-is}
 use Rattle.math_lists.specs.First.{by-cond, first, first-le, first-holds, first-unique}
+use Rattle.standard.specs.Arithmetic.{sub}
 use Rattle.standard.specs.Rpe.{mantissa, amplitude}
 use Rattle.standard.specs.House.{fit}
+use Rattle.law_arithmetic.specs.Clip.{minus-clip}
 use Rattle.law_fields.specs.Fit.{fit-is}
 use Rattle.law_fields.specs.Amplitudes.{exp-of}
 
@@ -55,3 +58,11 @@ exp-range code h =
     let u = abs-is code in
     let e : exp-of c ≤ 6 = by-cond (λ k. k ≤ 6) (leb c 15) (λ _. omega arith) (λ _. omega arith) in
     omega (arith, first-le (doubled m) 4 0, minus-is (pos (exp-of c)) (pos (first (doubled m) 4 0)))
+
+-- an exponent from −4 to 6 has a shift from 0 to 10, which meets no clip
+pub shift-in : (e : ℤ) → P e ≤ 6 → N e ≤ 4 → let t = natAbs (pos 6 -ℤ e) in (t ≤ 10) × (sub (pos 6) e ≡ pos t)
+shift-in e p n =
+    let d = pos 6 -ℤ e in
+    let a = minus-is (pos 6) e in
+    let b = abs-is d in
+    (omega (arith, apart e, apart d), omega (zar, apart e, apart d, minus-clip w16 (pos 6) e))
