@@ -1,4 +1,4 @@
--- The low bits of a codeword, as the code computes them.
+-- The low bits of a codeword as the code computes them: with 65536 added, the remainder modulo 2^width.
 use Prim.Native.Nat.{ℕ, _+_, _*_, _-_, _%_, _^_, _<_, _≤_}
 use mathlib.Core.Path.{_≡_, sym, ap, _∙_}
 use native.Mathlib.Omega.{arith}
@@ -14,11 +14,11 @@ use Rattle.law_arithmetic.specs.Shift.{modulo-below, modulo-raised}
 power-most : (width : ℕ) → width ≤ 15 → 2 ^ width ≤ 32768
 power-most width h = pow-mono {i = width} {j = 15} h
 
--- so a one that is shifted left by its width is their number
+-- so 1 shifted left by the width, on 32 bits, is their number
 pub power : (width : ℕ) → width ≤ 15 → (1 * 2 ^ width) % 4294967296 ≡ 2 ^ width
 power width h = omega (arith, power-most width h)
 
--- so 65536 leaves the low bits of a word
+-- adding 65536 does not change the low bits of a word, since 2^width divides it
 pub word-raised : (c : ℤ) (width : ℕ) → width ≤ 15 → SFits w16 c → modulo c (2 ^ width) ≡ natAbs (c +ℤ pos 65536) % 2 ^ width
 word-raised c width h f =
     let s : 16 - width + width ≡ 16 = omega arith in

@@ -11,7 +11,7 @@ use Rattle.standard.specs.Tables.{_at_}
 use Rattle.law_fields.specs.Valid.{low-bits}
 
 module _ (ws : List ℕ) (xs d : List ℤ) (lx : length xs ≡ length ws) (ld : length d ≡ length ws) where
-  -- a turn stores the low bits of the codeword at i
+  -- iteration i stores the low bits of the codeword at i
   pub masked-next : {i w : ℕ} {l : List ℤ} {x r : ℤ} → l ≡ filled i (zipWith low-bits ws xs) d → i < length ws
       → w ≡ getD ws i 0 → x ≡ xs at i → r ≡ low-bits w x → set l i r ≡ filled (i + 1) (zipWith low-bits ws xs) d
   masked-next {i} h p ew ex er =

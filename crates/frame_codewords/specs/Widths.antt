@@ -1,4 +1,4 @@
--- The widths of the fields: what the code's tests come to, and that none is above 7.
+-- The widths of the fields: which width each of the code's tests selects, and that none is above 7.
 use Prim.Native.Nat.{ℕ, _-_, _%_, _<_, _≤_}
 use mathlib.Core.Path.{_≡_, refl}
 use mathlib.Core.Bool.{true}

@@ -1,4 +1,4 @@
-// 01, 'Numbers handed over': the fields of the 76 codewords, and the valid bits of a received one.
+// House rules, 'Samples and codewords': the fields of the 76 codewords, and the valid bits of a received one.
 ghost use mathlib.Core.Path.{_≡_};
 ghost use mathlib.Core.List.{zipWith};
 ghost use Prim.Native.Nat.{_≤_};
@@ -47,7 +47,8 @@ pub fn field_width(i: usize) -> u16
     }
 }
 
-// The low bits of a codeword, as many as the width says. 65536 more leaves them as they are and makes the number positive.
+// The low bits of a codeword, as many as the width says. Adding 65536 does not change them, and makes the number
+// positive.
 fn low_bits(c: i16, width: u16) -> i16
     requires { ⌜ width ≤ 15 ⌝ }
     ensures { λ r. ⌜ r ≡ low-bits width c ⌝ }

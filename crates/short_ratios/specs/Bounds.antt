@@ -1,4 +1,4 @@
--- 4.2.9.2: no coefficient is the least word, so mult_r meets no limit in the lattices.
+-- 4.2.9.2: no coefficient is -32768, so mult_r never saturates in the lattices.
 use Prim.Native.Nat.{ℕ, _≤_}
 use mathlib.Core.Path.{_≡_}
 use mathlib.Core.Bool.{true}
@@ -24,7 +24,7 @@ use Rattle.short_ratios.specs.Stretches.{LARp, rps}
 abbrev size : ℤ → Type 0
 size z = (P z ≤ 32767) × (N z ≡ 0)
 
--- the piecewise line makes a size of a number that is not negative
+-- the piecewise line of a number that is not negative lies there
 from-ratio-size : (t : ℤ) → N t ≡ 0 → size (from-ratio t)
 unfolding from-ratio
 from-ratio-size t h = by-cond size (ltZ t (pos 11059)) first (λ _. by-cond size (ltZ t (pos 20070)) (λ _. second) (λ _. third))
@@ -40,7 +40,7 @@ from-ratio-size t h = by-cond size (ltZ t (pos 11059)) first (λ _. by-cond size
     third : size (add (t >> 2) (pos 26112))
     third = omega (arith, plus-clip w16 (t >> 2) (pos 26112), add-is (t >> 2) (pos 26112), shr-is t 4 (omega arith))
 
--- a coefficient is above the least word
+-- a coefficient is above -32768
 pub rp-above : (x : ℤ) → leZ (neg 32767) (rp x) ≡ true
 unfolding rp with-sign
 rp-above x =

@@ -1,4 +1,4 @@
--- 4.2.9.2: of a size, the piecewise line is the least of its three lines.
+-- 4.2.9.2: for a number that is not negative, the piecewise line is the least of its three lines.
 use Prim.Native.Nat.{_+_, _/_, min}
 use mathlib.Core.Path.{_≡_}
 use mathlib.Core.Bool.{true, false, cond}
@@ -15,6 +15,7 @@ use Rattle.standard.specs.ShortTerm.{from-ratio}
 use Rattle.law_arithmetic.specs.Clip.{plus-clip, plus-plain}
 use Rattle.law_arithmetic.specs.Shift.{keep-plain}
 
+-- the smaller of two
 abbrev pub lesser : ℤ → ℤ → ℤ
 lesser a b = cond (ltZ a b) a b
 
@@ -32,7 +33,7 @@ abbrev pub least : ℤ → ℤ
 least t = lesser (lesser (steep t) (middle t)) (flat t)
 
 module _ (t : ℤ) (f : SFits w16 t) (n : N t ≡ 0) where
-  -- what each gives, with its limit
+  -- what each gives: it saturates at 32767 and is not negative
   steep-is : (P (steep t) ≡ min (P t + P t) 32767) × (N (steep t) ≡ 0)
   steep-is = omega (arith, plus-clip w16 t t, add-is t t)
 
@@ -71,6 +72,6 @@ module _ (t : ℤ) (f : SFits w16 t) (n : N t ≡ 0) where
       by-cond (λ z. least t ≡ z) (ltZ t (pos 11059)) first
       (λ a. by-cond (λ z. least t ≡ z) (ltZ t (pos 20070)) (second a) third)
 
--- so the least of the three is 001's line, for every size
+-- so the least of the three is 4.2.9.2's line, for every word that is not negative
 pub least-is : (t : ℤ) → SFits w16 t → leZ (pos 0) t ≡ true → least t ≡ from-ratio t
 least-is t f h = least-of t f (omega (zar, apart t))

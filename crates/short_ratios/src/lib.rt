@@ -30,7 +30,8 @@ pub fn ratios(larc: [i16; 8]) -> [i16; 8]
     larpp_all
 }
 
-// 4.2.9.1: a ratio between the last frame's and this one's, in stretch j: samples 0 to 12, 13 to 26, 27 to 39, 40 to 159.
+// 4.2.9.1: a ratio interpolated between the last frame's and this one's. The stretches j from 0 to 3 are samples 0 to
+// 12, 13 to 26, 27 to 39 and 40 to 159.
 fn larp(j: usize, old: i16, new: i16) -> i16
     ensures { λ r. ⌜ r ≡ LARp j old new ⌝ }
 {
@@ -45,14 +46,15 @@ fn larp(j: usize, old: i16, new: i16) -> i16
     }
 }
 
+// The smaller of two words.
 fn lesser(a: i16, b: i16) -> i16
     ensures { λ r. ⌜ r ≡ lesser a b ⌝ }
 {
     if a < b { a } else { b }
 }
 
-// 4.2.9.2: the piecewise line, of a size. It is the least of its three lines (`least-is`, specs/Least), which takes no
-// branch, so that the compiler makes vectors of the eight.
+// 4.2.9.2: the piecewise line, for a number that is not negative. It is the least of its three lines (`least-is`,
+// specs/Least). The least takes no branch, so the compiler makes vector code for the eight.
 fn from_ratio(size: i16) -> i16
     requires { ⌜ leZ (pos 0) size ≡ true ⌝ }
     ensures { λ r. ⌜ r ≡ from-ratio size ⌝ }

@@ -1,3 +1,4 @@
+-- Three cases of i: the eight ratios, the sub-frames by the remainder modulo 17, and past the end.
 use borrow.Author.Needs.{needs}
 use mathlib.Core.Path.{_∙_}
 use mathlib.Core.List.{flatten}

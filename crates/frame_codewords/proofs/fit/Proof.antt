@@ -1,3 +1,4 @@
+-- A negative codeword does not fit. One that is not negative fits exactly when it is below 2^width.
 use borrow.Author.Needs.{needs}
 use mathlib.Core.Path.{sym}
 use Rattle.math_integers.specs.Halves.{zar, know}
@@ -19,7 +20,8 @@ returns c = let s = c .before in sym (fit-negative (s .args .width) (s .args .c)
 returns-2 : tie.Need-returns-2
 returns-2 c =
     let s = c .before in
-    rw (power (s .args .width) (s .pre), back (s .fits .c)) (sym (fit-compared (s .args .width) (s .args .c) (omega (zar, know (s .fits .c)))))
+    rw (power (s .args .width) (s .pre), back (s .fits .c))
+    (sym (fit-compared (s .args .width) (s .args .c) (omega (zar, know (s .fits .c)))))
 
 pub fit-spec : {M : Type 1} → statement M
 fit-spec = tie.close (tie.spec cast-result shl-result returns returns-2)

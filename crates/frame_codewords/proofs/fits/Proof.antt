@@ -1,3 +1,4 @@
+-- The tests that are left decide the whole: a test that fails makes the answer false, one that holds leaves the rest.
 use mathlib.Core.Path.{_≡_, refl, sym, _∙_}
 use mathlib.Core.Bool.{Bool, true, _&&_}
 use mathlib.Core.List.{List, zipWith, flatten}
@@ -35,7 +36,7 @@ loop-holds c = (search needs, refl)
 fit-requires : tie.Need-fit-requires Inv-loop μ-loop
 fit-requires c κs = rw (c .before .field-width .ensures) (omega (arith, width-most (c .before .before .before .loop .i)))
 
--- what is left to test before a turn: its own test, and what is left after it
+-- what is left to test before an iteration is its own test and what is left after it
 turn : (c : tie.After-fit Inv-loop μ-loop)
     → let k = c .before .before .before .before in
     fits (k .before .args .c .now) ≡ (c .fit .result && every (λ b. b) (drop (k .loop .i + 1) (tests (k .before .args .c .now))))
@@ -45,8 +46,9 @@ turn c =
     let i = k .loop .i in
     let xs = k .before .args .c .now in
     let f : SFits w16 (getD xs i (pos 0)) = search needs in
+    let e = zip-at fit widths xs i 0 (pos 0) true (omega arith) (omega arith) in
     let one : c .fit .result ≡ getD (tests xs) i true =
-    cc (back f, c .fit .ensures, c .before .before .field-width .ensures, zip-at fit widths xs i 0 (pos 0) true (omega arith) (omega arith)) in
+    cc (back f, c .fit .ensures, c .before .before .field-width .ensures, e) in
     rw one (sym (k .loop .inv .1) ∙ every-next (λ b. b) (tests xs) i true (rw zip-length (omega arith)))
 
 returns : tie.Need-returns Inv-loop μ-loop

@@ -1,3 +1,4 @@
+-- Iteration i stores the low bits of codeword i. The width is at most 7, as `low_bits` asks.
 use mathlib.Core.Path.{_≡_, refl, _∙_}
 use mathlib.Core.List.{zipWith}
 use Prim.Native.Nat.{_-_, _≤_}
@@ -36,13 +37,15 @@ loop-again c =
     let f : SFits w16 (xs at k .loop .i) = search needs in (
       search needs,
       simp length-set (k .loop .inv .1),
-      masked-next LARc-widths xs (replicate 8 (pos 0)) (k .before .pre) refl (k .loop .inv .2) (omega arith) (c .before .larc-width .ensures) (back f)
-          (res (c .low-bits) ∙ c .low-bits .ensures),
+      masked-next LARc-widths xs (replicate 8 (pos 0)) (k .before .pre) refl (k .loop .inv .2) (omega arith)
+          (c .before .larc-width .ensures) (back f) (res (c .low-bits) ∙ c .low-bits .ensures),
     )
 
 returns : tie.Need-returns Inv-loop μ-loop
 unfolding LARc-widths
-returns c = let k = c .before in masked-end LARc-widths _ (replicate 8 (pos 0)) (k .before .pre) refl (k .loop .i) (k .loop .inv .2) (omega arith)
+returns c =
+    let k = c .before in
+    masked-end LARc-widths _ (replicate 8 (pos 0)) (k .before .pre) refl (k .loop .i) (k .loop .inv .2) (omega arith)
 
 pub larc-valid-spec : {M : Type 1} → statement M
 larc-valid-spec =

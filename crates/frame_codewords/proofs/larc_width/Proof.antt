@@ -1,3 +1,4 @@
+-- Below 8 the code's table is `LARc-widths` itself. From 8 on the list has ended, so `getD` gives 0.
 use borrow.Author.Needs.{needs}
 use mathlib.Core.Path.{refl}
 use Rattle.standard.specs.Tables.{LARc-widths}

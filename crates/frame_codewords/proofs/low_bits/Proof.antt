@@ -1,3 +1,4 @@
+-- The sum with 65536 is positive and fits, and its remainder modulo 2^width is that of the codeword (`word-raised`).
 use borrow.Author.Needs.{needs}
 use Prim.Native.Nat.{_*_, _%_, _^_}
 use mathlib.Core.Path.{_≡_, sym, ap, _∙_}
@@ -31,7 +32,8 @@ cast-result-2 c =
 
 -- and of its remainder
 kept : (c : tie.Start)
-    → natAbs (mem w32 (mem w32 (mem w16 (c .args .c)) +ℤ pos 65536)) % (1 * 2 ^ c .args .width % 4294967296) ≡ modulo (c .args .c) (2 ^ c .args .width)
+    → natAbs (mem w32 (mem w32 (mem w16 (c .args .c)) +ℤ pos 65536)) % (1 * 2 ^ c .args .width % 4294967296)
+    ≡ modulo (c .args .c) (2 ^ c .args .width)
 kept c = rw (raised c, power (c .args .width) (c .pre)) (sym (word-raised (c .args .c) (c .args .width) (c .pre) (c .fits .c)))
 
 returns : tie.Need-returns

@@ -1,3 +1,4 @@
+-- Iteration i stores the low bits of codeword i. The width is at most 7, as `low_bits` asks.
 use mathlib.Core.Path.{_≡_, refl, _∙_}
 use mathlib.Core.List.{zipWith}
 use Prim.Native.Nat.{_-_, _≤_}
@@ -37,13 +38,15 @@ loop-again c =
     let f : SFits w16 (xs at k .loop .i) = search needs in (
       search needs,
       simp length-set (k .loop .inv .1),
-      masked-next sub-widths xs (replicate 17 (pos 0)) (k .before .pre) refl (k .loop .inv .2) (omega arith) (c .before .sub-width .ensures) (back f)
-          (res (c .low-bits) ∙ c .low-bits .ensures),
+      masked-next sub-widths xs (replicate 17 (pos 0)) (k .before .pre) refl (k .loop .inv .2) (omega arith)
+          (c .before .sub-width .ensures) (back f) (res (c .low-bits) ∙ c .low-bits .ensures),
     )
 
 returns : tie.Need-returns Inv-loop μ-loop
 unfolding sub-widths
-returns c = let k = c .before in masked-end sub-widths _ (replicate 17 (pos 0)) (k .before .pre) refl (k .loop .i) (k .loop .inv .2) (omega arith)
+returns c =
+    let k = c .before in
+    masked-end sub-widths _ (replicate 17 (pos 0)) (k .before .pre) refl (k .loop .i) (k .loop .inv .2) (omega arith)
 
 pub sub-valid-spec : {M : Type 1} → statement M
 sub-valid-spec =

@@ -1,3 +1,4 @@
+-- Each test selects one kind of field, and all fields of a kind have one width. From 17 on the list has ended.
 use native.Mathlib.Omega.{arith}
 use Rattle.standard.specs.Frame.{sub-widths}
 use Rattle.op_tables.specs.Facts.{past-end}

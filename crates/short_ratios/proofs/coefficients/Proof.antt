@@ -1,4 +1,4 @@
--- The eight coefficients of a stretch, one a turn.
+-- Iteration i stores rp of LARp at i. After eight iterations the array is `rps`.
 use Prim.Native.Nat.{_-_, _≤_}
 use mathlib.Core.Path.{_≡_, refl}
 use mathlib.Core.List.{List}

@@ -1,4 +1,4 @@
--- The least of the three lines, in two steps.
+-- The two calls of `lesser` give the least of the three lines, and that is the piecewise line (`least-is`).
 use mathlib.Core.Path.{_∙_}
 use mir.Syntax.{w16}
 use borrow.Author.Needs.{needs}

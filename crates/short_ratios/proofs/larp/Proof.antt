@@ -1,4 +1,4 @@
--- The interpolation of each of the four stretches.
+-- Four cases of j. In each the shifts and sums of the code are those of the stretch's interpolation.
 use mathlib.Core.Path.{sym, _∙_}
 use native.Mathlib.Omega.{arith}
 use borrow.Author.Needs.{needs}

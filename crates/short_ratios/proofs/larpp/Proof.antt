@@ -1,4 +1,4 @@
--- A decoded ratio: 4.2.8 step by step.
+-- 4.2.8 step by step: each operation's promise, put into the next.
 use borrow.Author.Needs.{needs}
 use mir.Syntax.{w16}
 use Rattle.math_integers.specs.Ranges.{back, res}

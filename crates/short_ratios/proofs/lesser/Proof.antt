@@ -1,4 +1,4 @@
--- The lesser of two, by the way its test goes.
+-- Each outcome of the test a < b gives one side of the definition.
 use Rattle.math_integers.specs.Ranges.{back}
 use Rattle.short_ratios.proofs.lesser.Statement.{statement}
 use Rattle.short_ratios.proofs.lesser.Tie as tie

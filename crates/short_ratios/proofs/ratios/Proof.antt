@@ -1,4 +1,4 @@
--- The eight decoded ratios, one a turn.
+-- Iteration i stores LARpp of codeword i. After eight iterations the array is `ratios`.
 use Prim.Native.Nat.{_-_, _≤_}
 use mathlib.Core.Path.{_≡_, refl}
 use mathlib.Core.List.{List}

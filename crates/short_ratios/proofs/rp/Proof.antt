@@ -1,4 +1,4 @@
--- The line of the size, with the sign of the ratio.
+-- The absolute value is not negative, as `from_ratio` asks. The two cases are the sign of the ratio.
 use mathlib.Core.Path.{_≡_}
 use mathlib.Core.Bool.{true, false}
 use borrow.Author.Needs.{needs}
