@@ -1,4 +1,4 @@
--- Cells that are carried plus 32768: one test then says of a sum that it is a word.
+-- Cells kept with 32768 added (the bias): one test then says of a sum that it is a word. What such sums and products stand for.
 use Prim.Native.Nat.{ℕ, _+_, _*_, _≤_}
 use mathlib.Core.Path.{_≡_, refl, sym, ap, _∙_}
 use mathlib.Core.Bool.{Bool, true, false, _&&_}
@@ -19,11 +19,11 @@ use Rattle.law_arithmetic.specs.Within.{range-is, range-yes, word, word-is, wor
 use Rattle.short_synthesis.specs.declared.Line.{Line}
 use Rattle.short_synthesis.specs.Lattice.{factor, factor-is, word-back, widened, Each, Held}
 
--- what such a number stands for
+-- the word that such a number stands for
 abbrev pub low : ℤ → ℤ
 low z = z -ℤ pos 32768
 
--- a word
+-- whether it stands for a word
 abbrev pub lifted : ℤ → Bool
 lifted z = word (low z)
 
@@ -41,10 +41,11 @@ base l =
       v7 = low (l .v7);
     }
 
--- what a product with such a number has too much, less the rounding term
+-- what is added to a product with such a number: the rounding term, less the r * 32768 that the product has too much
 abbrev pub offset : ℤ → ℤ
 offset r = pos 16384 -ℤ r *ℤ pos 32768
 
+-- each of the eight c is the offset of its coefficient
 pub record Offsets (r c : Line) : Type 0 where
   pub v0 : c .v0 ≡ offset (r .v0)
   pub v1 : c .v1 ≡ offset (r .v1)
@@ -55,12 +56,12 @@ pub record Offsets (r c : Line) : Type 0 where
   pub v6 : c .v6 ≡ offset (r .v6)
   pub v7 : c .v7 ≡ offset (r .v7)
 
--- a section as 001 has it, of what these stand for
+-- a section as 4.3.4 has it, on the words that these stand for
 pub record Passed (r v sri o a : ℤ) : Type 0 where
   pub out : low o ≡ sub (low sri) (mult-r r (low v))
   pub above : low a ≡ add (low v) (mult-r r (low o))
 
--- ---- its range
+-- ---- the range of such a number
 
 pub lifted-is : (z : ℤ) → lifted z ≡ true → (P z ≤ 65535) × (N z ≡ 0)
 lifted-is z h = omega (arith, range-is 32768 32767 (low z) h, minus-is z (pos 32768), apart z)
@@ -97,7 +98,7 @@ most-is z false h = omega (zar, minus-is z (pos 32768), apart z, apart (low z))
 pub test-is : (z : ℤ) → lifted z ≡ (leZ (pos 0) z && leZ z (pos 65535))
 test-is z = rw (least-is z (leZ (pos 0) z) refl, most-is z (leZ z (pos 65535)) refl)
 
--- ---- up and down, through locals
+-- ---- the bias added and taken off, through locals
 
 pub lift-fits : (z : ℤ) → word z ≡ true → SFits w32 (mem w32 z +ℤ pos 32768)
 lift-fits z h = rw (word-back z h) (omega (zar, know (word-is z h), add-is z (pos 32768)))
@@ -112,14 +113,14 @@ low-fits z h = rw (lifted-back z h) (omega (zar, know (word-is (low z) h)))
 pub low-is : (z : ℤ) → lifted z ≡ true → mem w32 (mem w32 z -ℤ pos 32768) ≡ low z
 low-is z h = back (low-fits z h) ∙ rw (lifted-back z h)
 
--- a sample that is read
+-- a sample that is read gets the bias
 pub sample-fits : (x : ℤ) → SFits w16 x → SFits w32 (mem w32 (mem w16 x) +ℤ pos 32768)
 sample-fits x f = rw (widened x f) (omega (zar, know f, add-is x (pos 32768)))
 
 pub sample-is : (x : ℤ) → SFits w16 x → low (mem w32 (mem w32 (mem w16 x) +ℤ pos 32768)) ≡ x
 sample-is x f = rw (back (sample-fits x f), widened x f) (omega (zar, add-is x (pos 32768), minus-is (x +ℤ pos 32768) (pos 32768)))
 
--- ---- sums
+-- ---- sums: the bias stays in a sum or a difference with a plain term
 
 module _ (s t : ℤ) where
   pub less-low : low (s -ℤ t) ≡ low s -ℤ t
@@ -189,7 +190,7 @@ module _ (m : ℤ) (h : word m ≡ true) where
       omega (zar, minus-is p (pos 1073725440), add-is p (pos 16384), minus-is (p +ℤ pos 16384) k) in
       rw (mult-r-plain m (pos 28180) (word-is m h) f (omega (arith, know (word-is m h))), e) (shifted-low (p +ℤ pos 16384))
 
-  -- with sr it is the sum of 001
+  -- added to sr it is the sum of 4.3.5
   pub faded-sum : (s : ℤ) → s +ℤ (faded m >> 15) ≡ low s +ℤ mult-r m (pos 28180)
   faded-sum s =
       let t = mult-r m (pos 28180) in

@@ -1,4 +1,4 @@
--- The lattice on eight cells by name: what its functions ask and promise, and that plain sums which are words are those of 4.3.4.
+-- The lattice on eight named cells: what its functions ask and promise, and that plain sums which are words are those of 4.3.4.
 use mathlib.Core.Path.{_≡_, refl, sym, ap, _∙_}
 use mathlib.Core.Bool.{Bool, true, false, _&&_, and-assoc, and-true}
 use mathlib.Core.List.{List, [], _∷_, zip, zipWith}
@@ -23,7 +23,7 @@ use Rattle.short_synthesis.specs.Speech.{sounded, not-least, synthesised
 abbrev pub cells : Line → List ℤ
 cells l = l .v0 ∷ l .v1 ∷ l .v2 ∷ l .v3 ∷ l .v4 ∷ l .v5 ∷ l .v6 ∷ l .v7 ∷ []
 
--- a word that is not the least: with it, mult_r meets no limit
+-- a word that is not -32768: with it, mult_r never saturates
 abbrev pub factor : ℤ → Bool
 factor = within (neg 32767) (pos 32767)
 
@@ -77,7 +77,8 @@ module _ (p : ℤ → Bool) (l : Line) where
   each-all h = rw (h .v0, h .v1, h .v2, h .v3, h .v4, h .v5, h .v6, h .v7)
 
   -- the test of all, as the code makes it: one after the other
-  pub all-left : (((((((p (l .v0) && p (l .v1)) && p (l .v2)) && p (l .v3)) && p (l .v4)) && p (l .v5)) && p (l .v6)) && p (l .v7)) ≡ every p (cells l)
+  pub all-left : (((((((p (l .v0) && p (l .v1)) && p (l .v2)) && p (l .v3)) && p (l .v4)) && p (l .v5)) && p (l .v6)) && p (l .v7))
+      ≡ every p (cells l)
   unfolding every
   all-left = simp (and-assoc, and-true)
 
@@ -110,7 +111,7 @@ pub record Held (l : Line) : Type 0 where
   pub v6 : mem w32 (l .v6) ≡ l .v6
   pub v7 : mem w32 (l .v7) ≡ l .v7
 
--- those are that fit a word
+-- numbers that fit a word are
 held : (p : ℤ → Bool) → ((z : ℤ) → p z ≡ true → SFits w16 z) → (l : Line) → Each p l → Held l
 held p f l h =
     let b : (z : ℤ) → p z ≡ true → mem w32 z ≡ z = λ z e. back (wide (f z e) tt) in
@@ -145,15 +146,15 @@ module _ {r v s mr mv ms x m : ℤ} (er : mr ≡ r) (ev : mv ≡ v) (es : ms ≡
   raised-is e = em ∙ rw (er, ev, es) at e
 
 module _ {r v s mr mv ms o : ℤ} (er : mr ≡ r) (ev : mv ≡ v) (es : ms ≡ s) (eo : o ≡ sub ms (mult-r mr mv)) where
-  -- a difference with its limit is a word
+  -- a difference that saturates is a word
   pub out-word : word o ≡ true
   out-word = rw eo (word-yes (sub ms (mult-r mr mv)) (minus-fits w16 ms (mult-r mr mv)))
 
-  -- and the local that holds it has it
+  -- and the local that holds it gives it back
   pub out-is : mem w32 o ≡ sub s (mult-r r v)
   out-is = word-back o out-word ∙ rw (er, ev, es) at eo
 
-  -- so has the one that holds the sum with its limit
+  -- so does the local that holds the sum that saturates
   pub above-is : {a : ℤ} → a ≡ add mv (mult-r mr o) → mem w32 a ≡ add v (mult-r r (mem w32 o))
   above-is {a} e =
       let f : mem w32 a ≡ a = rw e (back (wide (plus-fits w16 mv (mult-r mr o)) tt)) in
@@ -161,7 +162,7 @@ module _ {r v s mr mv ms o : ℤ} (er : mr ≡ r) (ev : mv ≡ v) (es : ms ≡ s
 
 -- ---- the sections
 
--- the eight sections as 001 has them, by the sri after each one
+-- the eight sections as 4.3.4 has them: s are the sri after each section, u the new cells
 pub record Sections (r v : Line) (wt : ℤ) (s u : Line) : Type 0 where
   pub s7 : s .v7 ≡ sub wt (mult-r (r .v7) (v .v7))
   pub s6 : s .v6 ≡ sub (s .v7) (mult-r (r .v6) (v .v6))
@@ -187,7 +188,7 @@ sections-are r v wt s u h =
     rw (h .u0, h .u1, h .u2, h .u3, h .u4, h .u5, h .u6, h .u7, h .s0, h .s1, h .s2, h .s3, h .s4, h .s5, h .s6, h .s7)
 
 module _ (a b : ℤ) {s : ℤ} where
-  -- a difference that is a word meets no limit
+  -- a difference that is a word does not saturate
   pub minus-word : s ≡ a -ℤ b → word s ≡ true → s ≡ sub a b
   minus-word e h = e ∙ sym (minus-plain a b (rw e at (word-is s h)))
 
@@ -207,7 +208,7 @@ module _ (r v : Line) (wt : ℤ) (u : Line) (e : cells u ≡ synthesised (cells 
   unfolding synthesised
   first-is = ap (λ (t : List ℤ). t at 0) e
 
-  -- and the turn, with the de-emphasis
+  -- and the whole step of one sample, with the de-emphasis
   pub turn-is : (msr d : ℤ) → d ≡ de-emphasis msr (u .v0) .0 → ((cells u, d), d) ≡ sounded (cells v, msr) (cells r, wt)
   unfolding sounded de-emphasis
   turn-is msr d f =
@@ -219,7 +220,7 @@ pub emphasised-word : (msr sr : ℤ) → word (de-emphasis msr sr .0) ≡ true
 unfolding de-emphasis
 emphasised-word msr sr = word-yes _ (plus-fits w16 sr (mult-r msr (pos 28180)))
 
--- coefficients that are words and not the least are factors
+-- coefficients that are words and not -32768 are factors
 pub factors-all : (a : List ℤ) → every not-least a ≡ true → every word a ≡ true → every factor a ≡ true
 unfolding every
 factors-all [] h k = refl

@@ -1,9 +1,10 @@
--- The cells that a stretch, or a frame's four, leave are determined by what they are promised to be.
+-- The promise on the cells after a stretch, or after a whole frame, leaves one answer only.
 use mathlib.Core.Path.{_≡_, sym, _∙_}
 use mathlib.Core.List.{List}
 use lib.IntN.{ℤ}
 use Rattle.short_synthesis.specs.declared.Cells.{Cells}
 
+-- the cells from their two parts
 abbrev made : List ℤ → ℤ → Cells
 made v msr = record { v = v; msr = msr }
 

@@ -38,23 +38,26 @@ sounded (v, msr) x =
 unfoldable pub voiced : List ℤ → ℤ → List ℤ → List ℤ → (List ℤ × ℤ) × List ℤ
 voiced v msr rrp wt = run sounded (v, msr) (zip (replicate (length wt) rrp) wt)
 
--- a coefficient that is not the least word, so that mult_r meets no limit
+-- a coefficient that is not -32768, so that mult_r never saturates
 abbrev pub not-least : ℤ → Bool
 not-least z = leZ (neg 32767) z
 
--- ---- one pass is the three of 001
+-- ---- one pass over the samples equals the standard's three: 4.3.4, then 4.3.5, then 4.3.6 and 4.3.7
 
 -- the lattice over all samples, then the de-emphasis over what it gives, then the output of each
 pub spoken-is : (v : List ℤ) (msr : ℤ) (xs : List (List ℤ × ℤ))
     → run speech (v, msr) xs
-    ≡ ((run synthesised v xs .0, run de-emphasis msr (run synthesised v xs .1) .0), map srop (run de-emphasis msr (run synthesised v xs .1) .1))
+    ≡ (
+      (run synthesised v xs .0, run de-emphasis msr (run synthesised v xs .1) .0),
+      map srop (run de-emphasis msr (run synthesised v xs .1) .1),
+    )
 unfolding speech run
 spoken-is v msr [] = refl
 spoken-is v msr (x ∷ xs) =
     let t = synthesised v x in
     rw (spoken-is (t .0) (de-emphasis msr (t .1) .0) xs)
 
--- the doubling can be left for last
+-- the doubling can be done last
 doubled-last : (v : List ℤ) (msr : ℤ) (xs : List (List ℤ × ℤ))
     → run speech (v, msr) xs ≡ (run sounded (v, msr) xs .0, map srop (run sounded (v, msr) xs .1))
 unfolding speech sounded run
@@ -82,7 +85,7 @@ paired-length rrp wt = rw paired (length-map wt (λ x. (rrp, x)))
 pub paired-at : (rrp wt : List ℤ) (k : ℕ) → k < length wt → (rrp, wt at k) ≡ getD (zip (replicate (length wt) rrp) wt) k (rrp, pos 0)
 paired-at rrp wt k h = rw (paired, map-at {B = List ℤ × ℤ} (λ x. (rrp, x)) wt k (pos 0) (rrp, pos 0) h)
 
--- ---- what the lattice gives are words
+-- ---- the lattice gives words
 
 -- the cells above any sections
 above-words : (xs : List (ℤ × ℤ)) (wt : ℤ) → every word (foldr inverse-section (wt, []) xs .1) ≡ true
@@ -99,4 +102,5 @@ unfolding synthesised inverse-section zip zipWith
 synthesised-words r v rs vs wt =
     let t = foldr inverse-section (wt, []) (zip rs vs) in
     let m = mult-r r v in
-    every-cons word (sub (t .0) m) _ .1 (word-yes (sub (t .0) m) (minus-fits w16 (t .0) m), every-take word 7 _ (above-words ((r, v) ∷ zip rs vs) wt))
+    let above = every-take word 7 _ (above-words ((r, v) ∷ zip rs vs) wt) in
+    every-cons word (sub (t .0) m) _ .1 (word-yes (sub (t .0) m) (minus-fits w16 (t .0) m), above)

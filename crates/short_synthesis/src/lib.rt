@@ -1,7 +1,7 @@
-// 4.3.4 to 4.3.7: the synthesis lattice and de-emphasis, sample by sample in one loop; doubling and
-// truncation in another. The lattice is a chain of dependences and decides the decoder's speed. So a sample
-// is first done with plain sums, which nearly always stay words; at the first that does not it is done again
-// with 001's limits.
+// 4.3.4 to 4.3.7: the synthesis lattice and de-emphasis, sample by sample in one loop; doubling and truncation in
+// another. In the lattice each step needs the result of the one before, so the lattice decides the decoder's speed.
+// Therefore a sample is first computed with plain sums. They nearly always stay in 16 bits. If one does not, the sample
+// is computed again with the sums of 4.3.4, which saturate.
 ghost use mathlib.Core.Path.{_≡_};
 ghost use mathlib.Core.Bool.{true};
 ghost use Prim.Native.Nat.{_+_, _≤_};
@@ -16,7 +16,7 @@ ghost use Rattle.short_synthesis.specs.Speech.{spoken, not-least};
 ghost use Rattle.short_synthesis.specs.Lattice.{cells, factor, Each};
 ghost use Rattle.short_synthesis.specs.Biased.{low, lifted, base, offset, Offsets, Passed};
 
-// Eight cells v[0..7], or the eight coefficients that go with them, in the registers of the machine.
+// Eight cells v[0..7], or the eight coefficients that go with them. As fields they stay in the machine's registers.
 struct Line {
     v0: i32,
     v1: i32,
@@ -28,6 +28,7 @@ struct Line {
     v7: i32,
 }
 
+// An array of eight as a `Line`.
 fn spread(a: [i16; 8]) -> Line
     ensures cells { λ r. ⌜ cells r ≡ a ⌝ }
     ensures words { λ r. ⌜ Each word r ⌝ }
@@ -44,6 +45,7 @@ fn spread(a: [i16; 8]) -> Line
     }
 }
 
+// A `Line` as an array of eight.
 fn gathered(l: Line) -> [i16; 8]
     requires { ⌜ Each word l ⌝ }
     ensures { λ r. ⌜ r ≡ cells l ⌝ }
@@ -60,7 +62,7 @@ fn gathered(l: Line) -> [i16; 8]
     ]
 }
 
-// mult_r of a coefficient, which is not the least word, and a cell: no limit can be met.
+// mult_r of a coefficient and a cell. The coefficient is not -32768, so mult_r cannot saturate.
 fn term(rrp: i32, v: i32) -> i32
     requires { ⌜ (factor rrp ≡ true) × (word v ≡ true) ⌝ }
     ensures { λ r. ⌜ r ≡ mult-r rrp v ⌝ }
@@ -68,7 +70,7 @@ fn term(rrp: i32, v: i32) -> i32
     (rrp * v + 16384) >> 15
 }
 
-// sri after a section, before its limit.
+// sri after a section, before it saturates.
 fn lowered(rrp: i32, v: i32, sri: i32) -> i32
     requires { ⌜ (factor rrp ≡ true) × (word v ≡ true) × (word sri ≡ true) ⌝ }
     ensures { λ r. ⌜ r ≡ sri -ℤ mult-r rrp v ⌝ }
@@ -76,7 +78,7 @@ fn lowered(rrp: i32, v: i32, sri: i32) -> i32
     sri - term(rrp, v)
 }
 
-// The cell above a section, from its sri, before its limit.
+// The cell above a section, from its sri, before it saturates.
 fn raised(rrp: i32, v: i32, sri: i32) -> i32
     requires { ⌜ (factor rrp ≡ true) × (word v ≡ true) × (word sri ≡ true) ⌝ }
     ensures { λ r. ⌜ r ≡ v +ℤ mult-r rrp sri ⌝ }
@@ -84,6 +86,7 @@ fn raised(rrp: i32, v: i32, sri: i32) -> i32
     v + term(rrp, sri)
 }
 
+// A number limited to 16 bits.
 fn clipped(z: i32) -> i32
     ensures { λ r. ⌜ r ≡ clip w16 z ⌝ }
 {
@@ -102,6 +105,7 @@ struct Section {
     above: i32,
 }
 
+// A section as 4.3.4 writes it: both sums saturate.
 fn through(rrp: i32, v: i32, sri: i32) -> Section
     requires { ⌜ (factor rrp ≡ true) × (word v ≡ true) × (word sri ≡ true) ⌝ }
     ensures out { λ r. ⌜ r .out ≡ sub sri (mult-r rrp v) ⌝ }
@@ -114,7 +118,7 @@ fn through(rrp: i32, v: i32, sri: i32) -> Section
     }
 }
 
-// One sample as 001 writes it, each sum with its limit.
+// One sample as 4.3.4 writes it: each sum saturates.
 fn limited(r: Line, v: Line, wt: i32) -> Line
     requires { ⌜ Each factor r × Each word v × (word wt ≡ true) ⌝ }
     ensures { λ u. ⌜ cells u ≡ synthesised (cells v) (cells r, wt) .0 ⌝ }
@@ -139,16 +143,18 @@ fn limited(r: Line, v: Line, wt: i32) -> Line
     }
 }
 
-// ---- The fast way. Its cells and sri are carried plus 32768, so that one test says of a sum that it is a
-// word (`lifted`). What such a number stands for is `low` of it (specs/Biased).
+// ---- The fast way. Its cells and sri are kept with 32768 added (the bias), so that one test says of a sum that it fits
+// 16 bits (`lifted`). `low` of such a number is the word that it stands for (specs/Biased).
 
+// Whether a number with the bias stands for a word.
 fn is_lifted(z: i32) -> bool
     ensures { λ r. ⌜ r ≡ lifted z ⌝ }
 {
     0 <= z && z <= 65535
 }
 
-// What takes the bias off a product, with the rounding term: r * (v + 32768) + offset is r * v + 16384 (`unbiased`).
+// What takes the bias out of a product and adds the rounding term: r * (v + 32768) + offset is r * v + 16384
+// (`unbiased`).
 fn offset(rrp: i32) -> i32
     requires { ⌜ factor rrp ≡ true ⌝ }
     ensures { λ r. ⌜ r ≡ offset rrp ⌝ }
@@ -156,6 +162,7 @@ fn offset(rrp: i32) -> i32
     16384 - rrp * 32768
 }
 
+// The offset of each coefficient.
 fn offsets(r: Line) -> Line
     requires { ⌜ Each factor r ⌝ }
     ensures { λ c. ⌜ Offsets r c ⌝ }
@@ -172,6 +179,7 @@ fn offsets(r: Line) -> Line
     }
 }
 
+// Eight words with the bias.
 fn with_bias(l: Line) -> Line
     requires { ⌜ Each word l ⌝ }
     ensures { λ r. ⌜ base r ≡ l ⌝ }
@@ -188,6 +196,7 @@ fn with_bias(l: Line) -> Line
     }
 }
 
+// Eight words without it.
 fn without_bias(l: Line) -> Line
     requires { ⌜ Each word (base l) ⌝ }
     ensures { λ r. ⌜ r ≡ base l ⌝ }
@@ -204,7 +213,7 @@ fn without_bias(l: Line) -> Line
     }
 }
 
-// mult_r of a coefficient and a cell.
+// mult_r of a coefficient and the word that a cell stands for.
 fn biased(rrp: i32, c: i32, v: i32) -> i32
     requires { ⌜ (factor rrp ≡ true) × (c ≡ offset rrp) × (lifted v ≡ true) ⌝ }
     ensures { λ r. ⌜ r ≡ mult-r rrp (low v) ⌝ }
@@ -212,7 +221,7 @@ fn biased(rrp: i32, c: i32, v: i32) -> i32
     (rrp * v + c) >> 15
 }
 
-// sri after a section, before its limit.
+// sri after a section, with the bias, before it saturates.
 fn fallen(rrp: i32, c: i32, v: i32, sri: i32) -> i32
     requires { ⌜ (factor rrp ≡ true) × (c ≡ offset rrp) × (lifted v ≡ true) × (lifted sri ≡ true) ⌝ }
     ensures { λ r. ⌜ low r ≡ low sri -ℤ mult-r rrp (low v) ⌝ }
@@ -220,7 +229,7 @@ fn fallen(rrp: i32, c: i32, v: i32, sri: i32) -> i32
     sri - biased(rrp, c, v)
 }
 
-// The cell above a section, from its sri, before its limit.
+// The cell above a section, from its sri, with the bias, before it saturates.
 fn risen(rrp: i32, c: i32, v: i32, sri: i32) -> i32
     requires { ⌜ (factor rrp ≡ true) × (c ≡ offset rrp) × (lifted v ≡ true) × (lifted sri ≡ true) ⌝ }
     ensures { λ r. ⌜ low r ≡ low v +ℤ mult-r rrp (low sri) ⌝ }
@@ -228,8 +237,8 @@ fn risen(rrp: i32, c: i32, v: i32, sri: i32) -> i32
     v + biased(rrp, c, sri)
 }
 
-// A section by plain sums: sri after it, the cell above its own, and whether every sum so far is a word. Then
-// no limit was met, and it is the section as 001 has it (`Passed`).
+// A section by plain sums: sri after it, the cell above its own, and whether every sum so far is a word. If so, no sum
+// would have saturated, and this is the section as 4.3.4 has it (`Passed`).
 struct Attempt {
     out: i32,
     above: i32,
@@ -257,8 +266,8 @@ fn entered(rrp: i32, c: i32, v: i32, wt: i32) -> Attempt
     }
 }
 
-// Each of the others goes on from the one before. After one that did not fit nothing is done: the compiler makes a jump
-// of it, to the slow way.
+// Each of the others goes on from the one before. After one that did not fit nothing is computed: the compiler makes
+// this a jump to the slow way.
 fn tried(rrp: i32, c: i32, v: i32, sri: Attempt) -> Attempt
     requires { ⌜ (factor rrp ≡ true) × (c ≡ offset rrp) × (lifted v ≡ true) × (lifted (sri .out) ≡ true) ⌝ }
     ensures out { λ r. ⌜ lifted (r .out) ≡ true ⌝ }
@@ -289,6 +298,7 @@ struct Sample {
     fits: bool,
 }
 
+// The eight sections by plain sums.
 fn plain(r: Line, c: Line, v: Line, wt: i32) -> Sample
     requires { ⌜ Each factor r × Offsets r c × Each word (base v) × (lifted wt ≡ true) ⌝ }
     ensures { λ u. ⌜ (u .fits ≡ true → cells (base (u .line)) ≡ synthesised (cells (base v)) (cells r, low wt) .0) ⌝ }
@@ -316,7 +326,7 @@ fn plain(r: Line, c: Line, v: Line, wt: i32) -> Sample
     }
 }
 
-// A copy: the slow way takes and gives copies, so that the cells themselves stay in registers.
+// A copy. The slow way takes and returns copies, so that the cells themselves stay in registers.
 fn same(l: Line) -> Line
     ensures { λ r. ⌜ r ≡ l ⌝ }
 {
@@ -346,8 +356,8 @@ fn lattice(r: Line, c: Line, v: Line, wt: i32) -> Line
     with_bias(z)
 }
 
-// 4.3.5: sro[k], which is also the next msr. What is taken off is 32768 * 32768 less the rounding term: after the shift
-// that is the 32768 which sr has too much (`faded-sum`, specs/Biased).
+// 4.3.5: sro[k], which is also the next msr. The number subtracted is 32768 * 32768 minus the rounding term. After the
+// shift this removes the bias of sr (`faded-sum`, specs/Biased).
 fn de_emphasis(msr: i32, sr: i32) -> i32
     requires { ⌜ (word msr ≡ true) × (lifted sr ≡ true) ⌝ }
     ensures { λ r. ⌜ r ≡ de-emphasis msr (low sr) .0 ⌝ }
@@ -368,9 +378,9 @@ pub struct Cells {
     pub msr: i16,
 }
 
-// A stretch of samples that have the same coefficients. No sample waits for the one before to be doubled, so
-// that is a loop of its own, of which the compiler makes vectors (`voiced-is`, specs/Speech: the doubling can
-// be left for last).
+// A stretch of samples that have the same coefficients. The doubling of a sample does not depend on the sample before.
+// So it is a loop of its own, for which the compiler makes vector code (`voiced-is`, specs/Speech: the doubling can be
+// done last).
 pub fn stretch(s: Cells, rrp: [i16; 8], wt: &[i16], srop: &mut [i16]) -> Cells
     requires { ⌜ (length (now srop) ≡ length (now wt)) × (every not-least rrp ≡ true) ⌝ }
     ensures v { λ r. ⌜ r .v ≡ spoken (s .v) (s .msr) rrp (now (wt .entry)) .0 .0 ⌝ }

@@ -1,4 +1,4 @@
--- The product of a coefficient and a number that is carried plus 32768, with its offset, is mult_r of the word.
+-- The product of a coefficient and a number with the bias, plus the offset, is the rounded product of the word: mult_r.
 use mathlib.Core.Path.{sym, _∙_}
 use lib.IntN.{pos, _*ℤ_, _+ℤ_}
 use mir.Syntax.{w32}

@@ -1,4 +1,4 @@
--- Each way the two tests can go is the limit of a word.
+-- Each outcome of the two tests gives one case of the limit to 16 bits.
 use mir.Syntax.{w16}
 use Rattle.math_integers.specs.Halves.{zar, know}
 use Rattle.law_arithmetic.specs.Clip.{clip-is}

@@ -1,4 +1,4 @@
--- De-emphasis of a sample that is carried plus 32768: the bias is taken off with the rounding term, before the shift.
+-- De-emphasis of a sample with the bias: subtracting 2^30 before the shift by 15 takes off 32768 after it.
 use mathlib.Core.Path.{_≡_, ap, _∙_}
 use lib.IntN.{ℤ, pos, _-ℤ_, _*ℤ_}
 use lib.Signed.{shrZ}

@@ -1,4 +1,4 @@
--- The eighth section by a plain difference: where that is a word, no limit was met.
+-- The eighth section by a plain difference: where that is a word, it does not saturate.
 use mathlib.Core.Path.{_≡_, sym, _∙_}
 use mathlib.Core.Bool.{true, true≢false}
 use mir.Syntax.{w32}

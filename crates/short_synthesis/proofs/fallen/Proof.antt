@@ -1,4 +1,4 @@
--- The plain difference of an sri that is carried plus 32768 and a term stands for the plain difference of the word.
+-- An sri with the bias less a term stands for the plain difference of the word and the term.
 use mathlib.Core.Path.{_∙_}
 use mir.Syntax.{w16}
 use mir.Val.{SFits}

@@ -1,4 +1,4 @@
--- Eight words of 32 bits as words of 16: each fits, and is the same number.
+-- Eight words of 32 bits become words of 16 bits: each fits, so the cast changes none of the numbers.
 use mathlib.Core.Path.{_≡_}
 use mathlib.Core.Bool.{true}
 use lib.IntN.{ℤ}

@@ -1,4 +1,4 @@
--- One sample: where the plain sums fit they are 001's cells; where one does not, the slow way gives them.
+-- One sample: where the plain sums fit they are the cells of 4.3.4; where one does not, the slow way gives these.
 use mathlib.Core.Path.{_≡_, sym, ap, _∙_}
 use borrow.Author.Needs.{needs}
 use Rattle.math_integers.specs.Ranges.{back}
@@ -20,8 +20,11 @@ sub-limited c = let s = c .before .before .before .before in low-fits (s .args .
 
 limited-requires : tie.Need-limited-requires
 limited-requires c κs =
-    let s = c .before .before .before .before in
-    (rw (c .before .same2 .ensures) (s .pre .0), rw (c .without-bias .ensures) (s .pre .2), rw (low-is (s .args .wt) (s .pre .3)) (s .pre .3))
+    let s = c .before .before .before .before in (
+      rw (c .before .same2 .ensures) (s .pre .0),
+      rw (c .without-bias .ensures) (s .pre .2),
+      rw (low-is (s .args .wt) (s .pre .3)) (s .pre .3),
+    )
 
 -- the start, from the slow way
 abbrev entry : tie.After-limited → tie.Start

@@ -1,4 +1,4 @@
--- One sample as 001 writes it: each section takes what the one before has left, and all eight are the definition's.
+-- One sample as 4.3.4 writes it: each section takes the sri that the one before gives, and all eight are the definition's.
 use mathlib.Core.Path.{_≡_, refl}
 use mathlib.Core.Bool.{true}
 use mir.Syntax.{w32}
@@ -74,43 +74,50 @@ through-requires-2 : tie.Need-through-requires-2
 through-requires-2 c κs =
     let b = c .before .before .before in
     let s = entry-1 b in
-    (rw (factors s .v6) (s .pre .0 .v6), rw (cells-held s .v6) (s .pre .1 .v6), rw (word-back (b .through .result .out) (word-1 b)) (word-1 b))
+    let w = word-1 b in
+    (rw (factors s .v6) (s .pre .0 .v6), rw (cells-held s .v6) (s .pre .1 .v6), rw (word-back (b .through .result .out) w) w)
 
 through-requires-3 : tie.Need-through-requires-3
 through-requires-3 c κs =
     let b = c .before .before .before in
     let s = entry-2 b in
-    (rw (factors s .v5) (s .pre .0 .v5), rw (cells-held s .v5) (s .pre .1 .v5), rw (word-back (b .through2 .result .out) (word-2 b)) (word-2 b))
+    let w = word-2 b in
+    (rw (factors s .v5) (s .pre .0 .v5), rw (cells-held s .v5) (s .pre .1 .v5), rw (word-back (b .through2 .result .out) w) w)
 
 through-requires-4 : tie.Need-through-requires-4
 through-requires-4 c κs =
     let b = c .before .before .before in
     let s = entry-3 b in
-    (rw (factors s .v4) (s .pre .0 .v4), rw (cells-held s .v4) (s .pre .1 .v4), rw (word-back (b .through3 .result .out) (word-3 b)) (word-3 b))
+    let w = word-3 b in
+    (rw (factors s .v4) (s .pre .0 .v4), rw (cells-held s .v4) (s .pre .1 .v4), rw (word-back (b .through3 .result .out) w) w)
 
 through-requires-5 : tie.Need-through-requires-5
 through-requires-5 c κs =
     let b = c .before .before .before in
     let s = entry-4 b in
-    (rw (factors s .v3) (s .pre .0 .v3), rw (cells-held s .v3) (s .pre .1 .v3), rw (word-back (b .through4 .result .out) (word-4 b)) (word-4 b))
+    let w = word-4 b in
+    (rw (factors s .v3) (s .pre .0 .v3), rw (cells-held s .v3) (s .pre .1 .v3), rw (word-back (b .through4 .result .out) w) w)
 
 through-requires-6 : tie.Need-through-requires-6
 through-requires-6 c κs =
     let b = c .before .before .before in
     let s = entry-5 b in
-    (rw (factors s .v2) (s .pre .0 .v2), rw (cells-held s .v2) (s .pre .1 .v2), rw (word-back (b .through5 .result .out) (word-5 b)) (word-5 b))
+    let w = word-5 b in
+    (rw (factors s .v2) (s .pre .0 .v2), rw (cells-held s .v2) (s .pre .1 .v2), rw (word-back (b .through5 .result .out) w) w)
 
 through-requires-7 : tie.Need-through-requires-7
 through-requires-7 c κs =
     let b = c .before .before .before in
     let s = entry-6 b in
-    (rw (factors s .v1) (s .pre .0 .v1), rw (cells-held s .v1) (s .pre .1 .v1), rw (word-back (b .through6 .result .out) (word-6 b)) (word-6 b))
+    let w = word-6 b in
+    (rw (factors s .v1) (s .pre .0 .v1), rw (cells-held s .v1) (s .pre .1 .v1), rw (word-back (b .through6 .result .out) w) w)
 
 through-requires-8 : tie.Need-through-requires-8
 through-requires-8 c κs =
     let b = c .before .before .before in
     let s = entry-7 b in
-    (rw (factors s .v0) (s .pre .0 .v0), rw (cells-held s .v0) (s .pre .1 .v0), rw (word-back (b .through7 .result .out) (word-7 b)) (word-7 b))
+    let w = word-7 b in
+    (rw (factors s .v0) (s .pre .0 .v0), rw (cells-held s .v0) (s .pre .1 .v0), rw (word-back (b .through7 .result .out) w) w)
 
 -- ---- all of them
 

@@ -1,4 +1,4 @@
--- sri less a term fits 32 bits, and is the plain difference.
+-- sri less a term fits 32 bits, so the difference on 32 bits is the plain difference.
 use mir.Syntax.{w16}
 use mir.Val.{SFits}
 use borrow.Author.Needs.{needs}

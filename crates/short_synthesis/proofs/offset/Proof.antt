@@ -1,4 +1,4 @@
--- An offset fits 32 bits, since the coefficient is not the least word.
+-- An offset fits 32 bits, since the coefficient is not -32768.
 use mathlib.Core.Path.{_∙_}
 use Rattle.math_integers.specs.Halves.{zar}
 use Rattle.math_integers.specs.Sums.{scale-is}

@@ -1,4 +1,4 @@
--- The offset of each of the eight coefficients.
+-- Eight calls of `offset`, one for each coefficient. Each coefficient is not -32768, as the calls ask.
 use mathlib.Core.Path.{_∙_}
 use Rattle.math_integers.specs.Ranges.{res}
 use Rattle.short_synthesis.specs.Lattice.{Held, factors-held}

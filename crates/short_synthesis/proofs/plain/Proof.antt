@@ -1,4 +1,4 @@
--- One sample by plain sums: each section goes on from the one before. Where the last fits, all did, and these are 001's eight.
+-- One sample by plain sums: each section goes on from the one before. If the last fits, all did, and these are 4.3.4's eight.
 use mathlib.Core.Path.{_≡_, ap}
 use mathlib.Core.Bool.{true}
 use lib.IntN.{ℤ}

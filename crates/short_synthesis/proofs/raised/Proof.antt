@@ -1,4 +1,4 @@
--- A cell plus a term fits 32 bits, and is the plain sum.
+-- A cell plus a term fits 32 bits, so the sum on 32 bits is the plain sum.
 use mir.Syntax.{w16}
 use mir.Val.{SFits}
 use borrow.Author.Needs.{needs}

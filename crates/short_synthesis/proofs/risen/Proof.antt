@@ -1,4 +1,4 @@
--- The plain sum of a cell that is carried plus 32768 and a term stands for the plain sum of the word.
+-- A cell with the bias plus a term stands for the plain sum of the word and the term.
 use mathlib.Core.Path.{_∙_}
 use mir.Syntax.{w16}
 use mir.Val.{SFits}

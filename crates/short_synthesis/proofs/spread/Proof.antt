@@ -1,4 +1,4 @@
--- Eight words of 16 bits as words of 32: the same numbers.
+-- Eight words of 16 bits become words of 32 bits: the cast changes none of the numbers.
 use mir.Syntax.{w16}
 use mir.Val.{SFits}
 use borrow.Author.Needs.{needs}

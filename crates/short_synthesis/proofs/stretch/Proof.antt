@@ -80,12 +80,12 @@ loop-holds c =
       start c .pre .0,
     )
 
--- ---- a turn of it
+-- ---- an iteration of the first loop
 
 mul-lattice : tie.Need-mul-lattice Inv-loop μ-loop Inv-loop2 μ-loop2
 mul-lattice c = search needs
 
--- a place past this one still fits
+-- the next index still fits
 next : (c : tie.In-loop Inv-loop μ-loop Inv-loop2 μ-loop2) → Fits w64 (c .before .loop .k + 1)
 next c = search needs
 
@@ -160,7 +160,7 @@ loop-again c =
       simp length-set (b .inv .4),
     )
 
--- ---- a turn of the second
+-- ---- an iteration of the second loop
 
 mul-upscaled : tie.Need-mul-upscaled Inv-loop μ-loop Inv-loop2 μ-loop2
 mul-upscaled c = search needs

@@ -1,4 +1,4 @@
--- The rounded product is mult_r, since a coefficient is not the least word.
+-- The rounded product is mult_r, since a coefficient is not -32768.
 use mathlib.Core.Path.{_∙_, sym}
 use native.Mathlib.Omega.{arith}
 use Rattle.math_integers.specs.Halves.{know}

@@ -1,4 +1,4 @@
--- A section with its two limits: the clipped difference and the clipped sum.
+-- A section of 4.3.4: clipping the plain difference is `sub`, clipping the plain sum is `add`.
 use mathlib.Core.Path.{ap, _∙_}
 use mir.Syntax.{w16}
 use mir.Val.{SFits}

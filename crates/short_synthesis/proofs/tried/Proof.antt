@@ -1,4 +1,4 @@
--- A section by plain sums: where it fits, so did those before it, both sums are words, and no limit was met.
+-- A section by plain sums: if it fits, so did those before it, both sums are words, and neither would have saturated.
 use mathlib.Core.Path.{_≡_, sym, ap, _∙_}
 use mathlib.Core.Bool.{true, true≢false}
 use mir.Syntax.{w32}

@@ -1,4 +1,4 @@
--- Doubled with its limit, the low 3 bits cleared.
+-- The doubling is `add`, which saturates; the two shifts clear the low 3 bits.
 use mir.Syntax.{w16}
 use borrow.Author.Needs.{needs}
 use Rattle.math_integers.specs.Ranges.{back, res, shr-fits}

@@ -1,4 +1,4 @@
--- Eight words plus 32768: each fits, and stands for the word it came from.
+-- Each of eight words plus 32768 fits 32 bits and stands for the word it came from.
 use Rattle.short_synthesis.specs.Biased.{lift-fits, lift-is}
 use Rattle.short_synthesis.proofs.with_bias.Statement.{statement}
 use Rattle.short_synthesis.proofs.with_bias.Tie as tie

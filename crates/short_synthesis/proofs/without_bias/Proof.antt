@@ -1,4 +1,4 @@
--- Eight numbers less 32768: each is the word that it stands for.
+-- Each of eight numbers less 32768 is the word that the number stands for.
 use Rattle.short_synthesis.specs.Biased.{low-fits, low-is}
 use Rattle.short_synthesis.proofs.without_bias.Statement.{statement}
 use Rattle.short_synthesis.proofs.without_bias.Tie as tie
