@@ -2,7 +2,7 @@
 ghost use mathlib.Core.Path.{_≡_};
 ghost use Rattle.standard.specs.Lpc.{area-ratio, LAR, clamped, LARc, ratio-codes};
 
-// 4.2.6: the piecewise line, of a size.
+// 4.2.6: the piecewise line, for an absolute value.
 fn area_ratio(temp: i16) -> i16
     ensures { λ r. ⌜ r ≡ area-ratio temp ⌝ }
 {
@@ -15,7 +15,7 @@ fn area_ratio(temp: i16) -> i16
     }
 }
 
-// 4.2.6: LAR[i] of r[i].
+// 4.2.6: LAR[i] from r[i].
 fn lar(r: i16) -> i16
     ensures { λ s. ⌜ s ≡ LAR r ⌝ }
 {
@@ -23,7 +23,7 @@ fn lar(r: i16) -> i16
     if r < 0 { op_words::sub(0, temp) } else { temp }
 }
 
-// x, or the end of the range that it has passed.
+// x, limited to the range from least to most.
 fn clamped(least: i16, most: i16, x: i16) -> i16
     ensures { λ r. ⌜ r ≡ clamped least most x ⌝ }
 {
@@ -36,7 +36,7 @@ fn clamped(least: i16, most: i16, x: i16) -> i16
     }
 }
 
-// 4.2.7: LARc[i + 1] of LAR[i + 1].
+// 4.2.7: LARc[i + 1] from LAR[i + 1].
 fn larc(i: usize, lar: i16) -> i16
     ensures { λ r. ⌜ r ≡ LARc i lar ⌝ }
 {
@@ -49,7 +49,7 @@ fn larc(i: usize, lar: i16) -> i16
     op_words::sub(clamped(mic, op_tables::lar_mac(i), temp), mic)
 }
 
-// LARc[1..8] of r[1..8].
+// 4.2.6, 4.2.7: LARc[1..8] from r[1..8].
 pub fn ratio_codes(r: [i16; 8]) -> [i16; 8]
     ensures { λ s. ⌜ s ≡ ratio-codes r ⌝ }
 {

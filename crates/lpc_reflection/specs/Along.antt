@@ -1,4 +1,4 @@
--- How far the recursion of 4.2.5 has come, and what it comes to: the definition's r[1..8] and ending.
+-- How far the recursion of 4.2.5 is, and what it gives at its end: the definition's r[1..8] and ending.
 use Prim.Native.Nat.{ℕ, suc, _+_, _-_, _<_}
 use mathlib.Core.Path.{_≡_, refl, sym, ap, _∙_}
 use mathlib.Core.Bool.{true, false}
@@ -18,18 +18,18 @@ use Rattle.standard.specs.Lpc.{silent, stopped, complete, ACF, reflection, meas
 use Rattle.law_lengths.specs.Analysis.{ACF-length}
 use Rattle.law_loops.specs.Recursion.{PK-loop, PK-length, sizes, seen, stepped, measures, turn-measures, P-start, K-start, start-measures}
 
--- where P[0] < abs( P[1] ), no step to come measures anything
+-- `measures` lists the coefficients that the steps to come give; where P[0] < abs( P[1] ) it is empty
 measures-none : (k : ℕ) (P K : List ℤ) → ltZ (P at 0) (abs (P at 1)) ≡ true → measures (suc k) (seen (suc k) (P, K)) ≡ []
 unfolding measured tab
 measures-none k P K h = rw h
 
--- otherwise the first of them measures one
+-- otherwise the first step to come gives one
 measures-one : (k : ℕ) (P K : List ℤ) → ltZ (P at 0) (abs (P at 1)) ≡ false → let rn = reflection (P at 0) (P at 1) in
     measures (suc k) (seen (suc k) (P, K)) ≡ rn ∷ measures k (stepped k rn P K)
 unfolding measured tab
 measures-one k P K h = rw h
 
--- m coefficients are measured and k steps are to come, which with what they will measure gives M; r has the m, and 0 from there on
+-- m coefficients are known and k steps are to come; the m and what the k will give are M together; r has the m, and 0 after them
 pub record Along (M : List ℤ) (m k : ℕ) (P K r : List ℤ) : Type 0 where
   pub eight : m + k ≡ 8
   pub Ps : length P ≡ 9
@@ -38,7 +38,7 @@ pub record Along (M : List ℤ) (m k : ℕ) (P K r : List ℤ) : Type 0 where
   pub gives : take m r ++ measures k (seen k (P, K)) ≡ M
   pub rest : drop m r ≡ replicate k (pos 0)
 
--- before the first step, M is what all eight will measure
+-- before the first step, M is what all eight will give
 pub along-start : (acf : List ℤ) → length acf ≡ 9 → let K = K-start acf (replicate 9 (pos 0)) in
     Along (measures 8 (seen 8 (acf, K))) 0 8 acf K (replicate 8 (pos 0))
 along-start acf n =
@@ -64,7 +64,7 @@ along-next m k P K r a h =
       rest = drop-set-lt (suc m) r m rn (omega arith) ∙ ap tail (sym (drop-cons r m (pos 0) i) ∙ a .rest);
     }
 
--- where no step to come measures anything, r is M and then 0, and M has m coefficients
+-- where no step to come gives a coefficient, r is M and then 0, and M has m coefficients
 along-end : {M : List ℤ} (m k : ℕ) (P K r : List ℤ) → Along M m k P K r → measures k (seen k (P, K)) ≡ []
     → (r ≡ M ++ replicate (8 - length M) (pos 0)) × (length M ≡ m)
 along-end {M} m k P K r a none =
@@ -89,7 +89,7 @@ module _ (L-acf : List ℤ) where
   silent-is z = (rw z, rw z)
 
   module _ (z : is-zero (L-acf at 0) ≡ false) where
-    -- the eight steps from the start measure what the definition does
+    -- the eight steps from the start give what the definition does
     pub all-measured : length L-acf ≡ 9 → let acf = ACF L-acf in measures 8 (seen 8 (acf, K-start acf (replicate 9 (pos 0)))) ≡ schur L-acf
     unfolding schur
     all-measured n =
@@ -106,7 +106,7 @@ module _ (L-acf : List ℤ) where
         let e = a .eight in
         (x, rw (z, n, ne-eqb m 8 (omega arith)))
 
-    -- all eight steps measured
+    -- all eight steps gave a coefficient
     pub complete-is : (P K r : List ℤ) → Along (schur L-acf) 8 0 P K r → (r ≡ coefficients L-acf) × (complete ≡ ending L-acf)
     unfolding coefficients ending measured
     complete-is P K r a =

@@ -10,7 +10,7 @@ ghost use Rattle.standard.specs.Lpc as lpc;
 ghost use Rattle.law_loops.specs.Recursion.{PK-loop, K-start};
 ghost use Rattle.lpc_reflection.specs.Promise.{ended};
 
-// How the recursion ended: the first sum is 0; stopped at a step, 1 to 8; or neither.
+// How the recursion ended: not started, because the first sum is 0; stopped at step 1 to 8; or all steps done.
 pub enum Ending {
     Silent,
     Stopped(u8),
@@ -29,7 +29,7 @@ struct Arrays {
     k: [i16; 9],
 }
 
-// ACF[0..8] of L_ACF[0..8], the first of which is above 0.
+// ACF[0..8] from L_ACF[0..8]. L_ACF[0] is above 0.
 fn acf(l_acf: [i32; 9]) -> [i16; 9]
     requires { ⌜ ltZ (pos 0) («l_acf» at 0) ≡ true ⌝ }
     ensures { λ r. ⌜ r ≡ lpc.ACF «l_acf» ⌝ }
@@ -53,7 +53,7 @@ fn k_start(acf: [i16; 9]) -> [i16; 9]
     k
 }
 
-// r[n] of P[0] and P[1].
+// r[n] from P[0] and P[1].
 fn coefficient(p0: i16, p1: i16) -> i16
     ensures { λ r. ⌜ r ≡ lpc.reflection p0 p1 ⌝ }
 {
@@ -79,7 +79,8 @@ fn step(n: usize, rn: i16, a: Arrays) -> Arrays
     Arrays { p: p, k: k }
 }
 
-// The recursion, from L_ACF[0..8]. Where it stops, the coefficients from there on are 0; equality goes on.
+// The recursion, from L_ACF[0..8]. It stops where P[0] < abs( P[1] ), and goes on at equality. The coefficients from the
+// stop on are 0.
 pub fn reflection_coefficients(l_acf: [i32; 9]) -> Reflection
     requires { ⌜ leZ (pos 0) («l_acf» at 0) ≡ true ⌝ }
     ensures r { λ r. ⌜ r .r ≡ lpc.r «l_acf» ⌝ }

@@ -1,4 +1,4 @@
--- 4.2.2: the two parts of L_z2 that are multiplied apart, and that their sums have room on 32 bits.
+-- 4.2.2: the two parts of L_z2 that are multiplied separately, and that their sums fit 32 bits.
 use Prim.Native.Nat.{ℕ, _+_, _≤_}
 use mathlib.Core.Path.{_≡_, sym, ap, _∙_}
 use mathlib.Core.Bool.{true}
@@ -29,21 +29,22 @@ lsp-in x = omega (arith, apart x, shr-is x 32768 (omega arith), scale-is (msp x)
 pub lsp-word : (x : ℤ) → SFits w16 (lsp x)
 lsp-word x = omega (zar, lsp-in x)
 
--- both make it up
+-- L_z2 is made of both
 whole : (x : ℤ) → x ≡ lsp x +ℤ pos 32768 *ℤ msp x
 whole x = sym (-ℤ-+ℤ-cancel x (msp x *ℤ pos 32768)) ∙ ap (λ (y : ℤ). lsp x +ℤ y) (*ℤ-comm (msp x) (pos 32768))
 
--- multiplied apart and added, to 32768 times s: as if L_z2 had been multiplied whole
+-- both parts multiplied separately and added to 32768 times s give the same as L_z2 multiplied whole
 pub parts-decay : (x s : ℤ)
     → (s *ℤ pos 32768 +ℤ msp x *ℤ pos 32735) +ℤ ((lsp x *ℤ pos 32735 +ℤ pos 16384) >> 15) ≡ pos 32768 *ℤ s +ℤ decayed x
 parts-decay x s =
     let a = s *ℤ pos 32768 in
     let p = msp x *ℤ pos 32735 in
     let l = decayed (lsp x) in
-    let e : decayed x ≡ l +ℤ p = ap decayed (whole x) ∙ (decayed-shift (lsp x) (msp x) ∙ ap (λ (y : ℤ). l +ℤ y) (*ℤ-comm (pos 32735) (msp x))) in
+    let turned : l +ℤ pos 32735 *ℤ msp x ≡ l +ℤ p = ap (λ (y : ℤ). l +ℤ y) (*ℤ-comm (pos 32735) (msp x)) in
+    let e : decayed x ≡ l +ℤ p = ap decayed (whole x) ∙ (decayed-shift (lsp x) (msp x) ∙ turned) in
     rw (e, *ℤ-comm (lsp x) (pos 32735), *ℤ-comm (pos 32768) s) (omega (zar, add-is a p, add-is (a +ℤ p) l, add-is l p, add-is a (l +ℤ p)))
 
--- ---- room, for any factor and any rounding term of 15 bits
+-- ---- what fits 32 bits, for any factor and any rounding term of 15 bits
 
 -- the high part is at most 32765 in size
 pub msp-in : (x : ℤ) → L-z2-range x ≡ true → natAbs (msp x) ≤ 32765
@@ -54,7 +55,7 @@ pub msp-word : (x : ℤ) → L-z2-range x ≡ true → SFits w16 (msp x)
 msp-word x h = omega (zar, abs-is (msp x), msp-in x h)
 
 module _ (s m : ℤ) (f : natAbs s ≤ 32764) (g : natAbs m ≤ 32765) (k : ℕ) (h : T (leb k 32767)) where
-  -- 32768 times s and the high part's product, added
+  -- 32768 times s plus the high part's product
   abbrev high : ℤ
   high = s *ℤ pos 32768 +ℤ m *ℤ pos k
 
@@ -67,11 +68,11 @@ module _ (s m : ℤ) (f : natAbs s ≤ 32764) (g : natAbs m ≤ 32765) (k : ℕ)
       let b-in = mul-in 32765 32767 m (pos k) (omega (arith, abs-is m)) (omega arith) in
       omega (arith, abs-is s, scale-is s 32768, add-is a b)
 
-  -- so they have room on 32 bits
+  -- so it fits 32 bits
   pub high-fits : SFits w32 high
   high-fits = omega (zar, high-in)
 
-  -- with one word more too
+  -- and so does its sum with one word
   pub all-fits : (t : ℤ) → SFits w16 t → SFits w32 (high +ℤ t)
   all-fits t e = omega (zar, high-in, know e, add-is high t)
 
@@ -85,7 +86,7 @@ low-fits l k r f h g =
     omega (zar, add-is b (pos r), shr-is (b +ℤ pos r) 32768 (omega arith))
 
 module _ (x : ℤ) (h : L-z2-range x ≡ true) (r : ℕ) (g : T (leb r 32767)) where
-  -- L_z2 with a rounding term has room on 32 bits
+  -- L_z2 plus a rounding term fits 32 bits
   pub sum-fits : SFits w32 (x +ℤ pos r)
   sum-fits = omega (zar, range-is 1073611249 1073611249 x h, add-is x (pos r), leb→le r 32767 g)
 

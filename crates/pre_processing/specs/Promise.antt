@@ -1,4 +1,4 @@
--- What the code's state stands for, and what the laws above use of the samples.
+-- What the struct `Kept` stands for, and that pre-emphasis gives words.
 use mathlib.Core.Path.{_≡_}
 use mathlib.Core.Bool.{true}
 use mathlib.Core.List.{List}
@@ -12,7 +12,7 @@ use Rattle.law_arithmetic.specs.Within.{word, word-yes}
 use Rattle.law_arithmetic.specs.Clip.{plus-fits}
 use mir.Syntax.{w16}
 
--- what the state stands for
+-- z1 and L_z2 as the standard has them
 unfoldable pub kept : Kept → standard.Offset
 kept m = record { z1 = m .z1; L-z2 = m .«l_z2» }
 

@@ -1,4 +1,4 @@
--- 4.2.1 and 4.2.2, a turn of the loop: the sample that it takes, s1, and the filter's step.
+-- 4.2.1 and 4.2.2, one iteration of the loop: the sample that it takes, the size of s1, and the filter's step.
 use Prim.Native.Nat.{ℕ, _<_, _≤_}
 use mathlib.Core.Path.{_≡_}
 use mathlib.Core.Bool.{true}
@@ -29,7 +29,7 @@ module _ (m : Offset) (so : ℤ) (h : sound-offset m ≡ true) (k : so-range so 
       let s1 = so -ℤ m .z1 in
       omega (arith, sound-is m h, range-is 16384 16380 so k, minus-is so (m .z1), apart s1, abs-is s1)
 
-  -- what is computed without limits is the filter's step
+  -- what is computed by plain sums is the filter's step
   pub turn-is : (next : Offset) (sof : ℤ)
       → next .z1 ≡ so → next .L-z2 ≡ pos 32768 *ℤ (so -ℤ m .z1) +ℤ decayed (m .L-z2) → sof ≡ (next .L-z2 +ℤ pos 16384) >> 15
       → (next, sof) ≡ offset m so

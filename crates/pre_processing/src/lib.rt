@@ -1,5 +1,5 @@
-// 4.2.1 to 4.2.3: downscaling, offset compensation, pre-emphasis. From a sound state the offset filter meets no limit (01, sum (a)), so its
-// 31 by 16 bits multiplication and its sums are plain ones on 32 bits.
+// 4.2.1 to 4.2.3: downscaling, offset compensation, pre-emphasis. From a sound state the offset filter never saturates
+// (house rules, 'Six sums' (a)). So its multiplication of 31 by 16 bits and its sums are plain ones on 32 bits.
 ghost use mathlib.Core.Path.{_≡_};
 ghost use mathlib.Core.Bool.{true};
 ghost use Prim.Native.Nat.{_≤_};
@@ -15,7 +15,7 @@ ghost use Rattle.law_soundness.specs.Decay.{decayed};
 ghost use Rattle.law_soundness.specs.Offset.{sound-offset};
 ghost use Rattle.pre_processing.specs.Promise.{kept};
 
-// 4.2.2: what is kept for the next sample and the next frame.
+// 4.2.2: z1 and L_z2, which are kept for the next sample and the next frame.
 pub struct Kept {
     pub z1: i16,
     pub l_z2: i32,
@@ -28,7 +28,7 @@ fn downscale(sop: i16) -> i16
     (sop >> 3) << 2
 }
 
-// 4.2.2: the next L_z2. The two parts of the old one, msp and lsp, are multiplied apart.
+// 4.2.2: the next L_z2. The two parts of the old one, msp and lsp, are multiplied separately.
 fn recursive(l_z2: i32, s1: i32) -> i32
     requires { ⌜ (L-z2-range «l_z2» ≡ true) × (natAbs s1 ≤ 32764) ⌝ }
     ensures { λ r. ⌜ r ≡ pos 32768 *ℤ s1 +ℤ decayed «l_z2» ⌝ }
@@ -63,7 +63,7 @@ pub fn offset(m: Kept, sop: &[i16], sof: &mut [i16]) -> Kept
     Kept { z1: z1, l_z2: l_z2 }
 }
 
-// 4.2.3: from sof to s. Nothing is fed back, so the compiler can do several samples at once.
+// 4.2.3: from sof to s. No output is fed back, so the compiler can compute several samples at once.
 pub fn emphasis(mp: i16, sof: &[i16], s: &mut [i16]) -> i16
     requires { ⌜ length (now s) ≡ length (now sof) ⌝ }
     ensures mp { λ r. ⌜ r ≡ run emphasis mp (now (sof .entry)) .0 ⌝ }

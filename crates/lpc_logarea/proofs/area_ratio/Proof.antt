@@ -1,3 +1,4 @@
+-- Three cases, as the two tests go. In each the code computes the line of that piece.
 use mathlib.Core.Path.{_≡_, _∙_}
 use mathlib.Core.Bool.{true, false}
 use borrow.Author.Needs.{needs}

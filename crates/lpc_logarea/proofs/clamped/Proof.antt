@@ -1,3 +1,4 @@
+-- Three cases, as the two tests go: above the range, below it, inside.
 use mathlib.Core.Path.{_≡_}
 use mathlib.Core.Bool.{true, false}
 use lib.Signed.{ltZ}

@@ -1,3 +1,4 @@
+-- The two cases are the sign of r: the line of its absolute value, negated or not.
 use mathlib.Core.Path.{_≡_, _∙_}
 use mathlib.Core.Bool.{true, false}
 use borrow.Author.Needs.{needs}
@@ -15,7 +16,8 @@ returns c =
     let s = k .before .before in
     let x = back (s .fits .r) in
     let below : ltZ (s .args .r) (pos 0) ≡ true = rw x at (c .before .if1 .taken) in
-    rw (below, res (c .sub) ∙ c .sub .ensures, res (k .area-ratio) ∙ k .area-ratio .ensures, res (k .before .abs) ∙ k .before .abs .ensures, x)
+    let a = k .before .abs in
+    rw (below, res (c .sub) ∙ c .sub .ensures, res (k .area-ratio) ∙ k .area-ratio .ensures, res a ∙ a .ensures, x)
 
 returns-2 : tie.Need-returns-2
 unfolding LAR with-sign

@@ -1,3 +1,4 @@
+-- 4.2.7 step by step: each operation's promise, put into the next.
 use mathlib.Core.Path.{_∙_}
 use borrow.Author.Needs.{needs}
 use mir.Syntax.{w16}
@@ -20,8 +21,9 @@ returns c =
     let a = m .before in
     let temp = down-bits w16 (t .add2 .result) 9 (search needs) in
     rw (res (c .sub) ∙ c .sub .ensures, res (b .clamped) ∙ b .clamped .ensures, temp, t .add2 .ensures, res (s .add) ∙ s .add .ensures)
-    (rw (res (m .mult) ∙ m .mult .ensures, res (a .lar-a) ∙ a .lar-a .ensures, res (offset .lar-b) ∙ offset .lar-b .ensures, back (a .before .fits .lar))
-    (rw (res (low .lar-mic) ∙ low .lar-mic .ensures, res (high .lar-mac) ∙ high .lar-mac .ensures)))
+    (rw (res (m .mult) ∙ m .mult .ensures, res (a .lar-a) ∙ a .lar-a .ensures)
+    (rw (res (offset .lar-b) ∙ offset .lar-b .ensures, back (a .before .fits .lar))
+    (rw (res (low .lar-mic) ∙ low .lar-mic .ensures, res (high .lar-mac) ∙ high .lar-mac .ensures))))
 
 pub larc-spec : {M : Type 1} → statement M
 larc-spec =

@@ -1,3 +1,4 @@
+-- Iteration i stores LARc of LAR of r[i]. After eight iterations the array is `ratio-codes`.
 use Prim.Native.Nat.{_-_, _≤_}
 use mathlib.Core.Path.{_≡_, refl, sym, _∙_}
 use mathlib.Core.List.{List}

@@ -1,3 +1,4 @@
+-- Iteration i stores L_ACF[i] shifted by the norm of L_ACF[0]. The norm exists because L_ACF[0] is above 0.
 use Prim.Native.Nat.{ℕ, _-_, _<_, _≤_}
 use mathlib.Core.Path.{_≡_, refl}
 use mathlib.Core.List.{List}

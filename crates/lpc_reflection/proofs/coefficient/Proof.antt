@@ -1,3 +1,4 @@
+-- The two cases are the sign of P[1]. In each the calls compute the definition's quotient, negated or not.
 use mathlib.Core.Path.{_≡_}
 use mathlib.Core.Bool.{true, false}
 use borrow.Author.Needs.{needs}

@@ -1,3 +1,4 @@
+-- Iteration i makes one step of the standard's loop; what is left of that loop gives `K-start` at every iteration.
 use Prim.Native.Nat.{ℕ, _-_, _≤_}
 use mathlib.Core.Path.{_≡_, refl, sym, _∙_}
 use mathlib.Core.List.{List}
@@ -12,7 +13,7 @@ use Rattle.law_loops.specs.Recursion.{K-start}
 use Rattle.lpc_reflection.proofs.k_start.Statement.{statement}
 use Rattle.lpc_reflection.proofs.k_start.Tie as tie
 
--- 001's turn i
+-- iteration i of the standard's loop
 abbrev turn : List ℤ → ℕ → List ℤ → List ℤ
 turn acf i K = set K (9 - i) (acf at i)
 
@@ -30,7 +31,8 @@ loop-again : tie.Need-loop-again Inv-loop μ-loop
 loop-again c =
     let b = c .before .before in
     let acf = b .before .args .t1 in
-    (search needs, rw (back (sfits-of (c .k .given))) (sym (steps-next (turn acf) 8 (b .loop .i) (b .loop .k) (omega arith)) ∙ b .loop .inv .1))
+    let next = steps-next (turn acf) 8 (b .loop .i) (b .loop .k) (omega arith) in
+    (search needs, rw (back (sfits-of (c .k .given))) (sym next ∙ b .loop .inv .1))
 
 returns : tie.Need-returns Inv-loop μ-loop
 returns c =

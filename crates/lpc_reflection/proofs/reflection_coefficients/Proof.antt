@@ -1,3 +1,5 @@
+-- Three ends: the first sum is 0, a step stops, all eight steps are done. In the loop, the coefficients so far and those that
+-- the steps to come will give are together the definition's (`Along`).
 use Prim.Native.Nat.{suc, _+_, _-_, _≤_}
 use mathlib.Core.Path.{_≡_, ap, _∙_}
 use mathlib.Core.Bool.{true, false}
@@ -28,6 +30,22 @@ Inv-loop r₀ a₀ n₀ r a n = ((1 ≤ n) × (n ≤ 9)) × Along (measures 8 (s
 abbrev μ-loop : tie.MeasureT-loop
 μ-loop r₀ a₀ n₀ r a n = 9 - n
 
+-- ---- points of the code, from the loop
+
+-- past the test for silence
+abbrev heard : tie.At-loop Inv-loop μ-loop → tie.Else1 Inv-loop μ-loop
+heard b = b .before .before .before
+
+-- the start
+abbrev start : tie.At-loop Inv-loop μ-loop → tie.Start Inv-loop μ-loop
+start b = heard b .before .before
+
+-- the loop, from its test
+abbrev turn : tie.After-abs Inv-loop μ-loop → tie.At-loop Inv-loop μ-loop
+turn c = c .before .before .before .before .before
+
+-- ---- before the loop
+
 returns : tie.Need-returns Inv-loop μ-loop
 unfolding ended
 returns c =
@@ -56,20 +74,22 @@ loop-holds c =
     let n : length L-acf ≡ 9 = search needs in
     (search needs, rw (c .k-start .ensures, c .before .acf .ensures) (along-start (ACF L-acf) (ACF-length L-acf ∙ n)))
 
--- in the loop, what is measured and what will be are what the definition measures
+-- ---- in the loop
+
+-- the coefficients so far and those to come are the definition's
 along : (b : tie.At-loop Inv-loop μ-loop) → let l = b .loop in
-    Along (schur (b .before .before .before .before .before .args .t1)) (l .n - 1) (9 - l .n) (l .a .p) (l .a .k) (l .r)
+    Along (schur (start b .args .t1)) (l .n - 1) (9 - l .n) (l .a .p) (l .a .k) (l .r)
 along b =
-    let s = b .before .before .before .before .before in
+    let s = start b in
     let n : length (s .args .t1) ≡ 9 = search needs in
-    let e = all-measured (s .args .t1) (not-zero (b .before .before .before)) n in
+    let e = all-measured (s .args .t1) (not-zero (heard b)) n in
     rw (b .before .k-start .ensures, b .before .before .acf .ensures, e) at (b .loop .inv .1)
 
 -- what the test compares
-test : (c : tie.After-abs Inv-loop μ-loop) → let P = c .before .before .before .before .before .loop .a .p in
+test : (c : tie.After-abs Inv-loop μ-loop) → let P = turn c .loop .a .p in
     (mem w16 (P at 0) ≡ P at 0) × (mem w16 (P at 1) ≡ P at 1) × (mem w16 (c .abs .result) ≡ abs (P at 1))
 test c =
-    let P = c .before .before .before .before .before .loop .a .p in
+    let P = turn c .loop .a .p in
     let f : SFits w16 (P at 0) = sfits-of (c .before .before .if22 .given) in
     let g : SFits w16 (P at 1) = sfits-of (c .before .abs-arg .given) in
     (back f, back g, res (c .abs) ∙ rw (back g) at (c .abs .ensures))
@@ -78,7 +98,7 @@ loop-again : tie.Need-loop-again Inv-loop μ-loop
 loop-again c =
     let u = c .before in
     let t = u .before .before .before in
-    let b = t .before .before .before .before .before .before in
+    let b = turn (t .before) in
     let l = b .loop in
     let P = l .a .p in
     let (f, g, e) = test (t .before) in
@@ -86,21 +106,22 @@ loop-again c =
     let i : 9 - l .n ≡ suc (9 - (l .n + 1)) = omega arith in
     let j : l .n + 1 - 1 ≡ l .n = omega arith in
     let k : suc (l .n - 1) ≡ l .n = omega arith in
-    let rn : mem w16 (u .coefficient .result) ≡ reflection (P at 0) (P at 1) = res (u .coefficient) ∙ rw (f, g) at (u .coefficient .ensures) in
+    let rn : mem w16 (u .coefficient .result) ≡ reflection (P at 0) (P at 1) =
+    res (u .coefficient) ∙ rw (f, g) at (u .coefficient .ensures) in
     let next = along-next (l .n - 1) (9 - (l .n + 1)) P (l .a .k) (l .r) (rw i at (l .inv .1)) on in
     (search needs, rw (j, c .step .ensures .0, c .step .ensures .1, rn) (rw k at next))
 
 returns-2 : tie.Need-returns-2 Inv-loop μ-loop
 unfolding ended
 returns-2 c =
-    let b = c .before .before .before .before .before .before in
+    let b = turn (c .before) in
     let l = b .loop in
     let P = l .a .p in
     let (f, g, e) = test (c .before) in
     let stops : ltZ (P at 0) (abs (P at 1)) ≡ true = rw (f, e) at (c .if2 .taken) in
     let i : 9 - l .n ≡ suc (8 - l .n) = omega arith in
     let k : suc (l .n - 1) ≡ l .n = omega arith in
-    rw k at (stopped-is _ (not-zero (b .before .before .before)) (l .n - 1) (8 - l .n) P (l .a .k) (l .r) (rw i at (along b)) stops)
+    rw k at (stopped-is _ (not-zero (heard b)) (l .n - 1) (8 - l .n) P (l .a .k) (l .r) (rw i at (along b)) stops)
 
 returns-3 : tie.Need-returns-3 Inv-loop μ-loop
 unfolding ended
@@ -109,7 +130,7 @@ returns-3 c =
     let l = b .loop in
     let i : 9 - l .n ≡ 0 = omega arith in
     let j : l .n - 1 ≡ 8 = omega arith in
-    complete-is _ (not-zero (b .before .before .before)) (l .a .p) (l .a .k) (l .r) (rw (i, j) at (along b))
+    complete-is _ (not-zero (heard b)) (l .a .p) (l .a .k) (l .r) (rw (i, j) at (along b))
 
 pub reflection-coefficients-spec : {M : Type 1} → statement M
 reflection-coefficients-spec =

@@ -1,3 +1,4 @@
+-- The two shifts of the code are the definition's shifts: `>>` rounds down, `<<` keeps the low 16 bits.
 use mir.Syntax.{w16}
 use lib.Signed.{shrZ}
 use Rattle.math_integers.specs.Ranges.{back, shr-fits}

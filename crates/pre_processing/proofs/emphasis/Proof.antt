@@ -1,3 +1,4 @@
+-- Iteration k makes one step of the definition's run, from `last`, which is the sample before.
 use Prim.Native.Nat.{_-_, _≤_}
 use mathlib.Core.Path.{_≡_, refl, _∙_}
 use native.Mathlib.Omega.{arith}

@@ -1,3 +1,4 @@
+-- Iteration k makes one step of the filter. The state stays sound, and this keeps each sum within 32 bits.
 use Prim.Native.Nat.{_-_, _≤_}
 use mathlib.Core.Path.{_≡_, sym, ap, _∙_}
 use mathlib.Core.Bool.{true}
@@ -41,7 +42,7 @@ loop-holds c =
     let g : SFits w32 (m .«l_z2») = search needs in
     (along-start offset _ _ _, rw (back f, back g) (c .before .before .pre .1), omega arith, c .before .before .pre .0)
 
--- ---- within a turn: the state, so and s1
+-- ---- within an iteration: the state, so and s1
 
 abbrev state : tie.At-loop Inv-loop μ-loop → standard.Offset
 state c = record { z1 = toZ w16 (c .loop .z1); L-z2 = toZ w32 (c .loop .l-z2) }
@@ -89,7 +90,7 @@ recursive-requires c κs =
     let h = turn c .loop .inv .1 in
     (L-z2-in (state (turn c)) h, rw (s1-is c) (s1-in (state (turn c)) (c .downscale .result) h (so-in c)))
 
--- ---- the new L_z2, and the turn's end
+-- ---- the new L_z2, and the end of the iteration
 
 L-z2-is : (c : tie.After-recursive Inv-loop μ-loop) → let l = turn (c .before) .loop in
     c .recursive .result ≡ pos 32768 *ℤ (c .before .downscale .result -ℤ toZ w16 (l .z1)) +ℤ decayed (toZ w32 (l .l-z2))
@@ -115,7 +116,8 @@ loop-again c =
     let sof = res (c .rounded) ∙ c .rounded .ensures in
     let step = turn-is m so (l .inv .1) (so-in d) next _ (res (d .downscale)) (res (r .recursive) ∙ L-z2-is r) sof in
     let read = so-is d ∙ sym (downscaled-at sop (l .k) (omega arith)) in (
-      along-next offset _ _ (pos 0) (l .inv .0) (rw downscaled-length (omega arith)) (omega arith) read (ap (λ p. p .0) step) (ap (λ p. p .1) step),
+      along-next offset _ _ (pos 0) (l .inv .0) (rw downscaled-length (omega arith)) (omega arith) read
+          (ap (λ p. p .0) step) (ap (λ p. p .1) step),
       ap (λ p. sound-offset (p .0)) step ∙ offset-sound m so (l .inv .1) (so-in d),
       omega arith,
       simp length-set (l .inv .3),

@@ -1,3 +1,4 @@
+-- Each product and sum fits 32 bits, and the two products together are the product of the whole L_z2 (`parts-decay`).
 use Prim.Native.Nat.{_*_, _%_}
 use mathlib.Core.Path.{_≡_, _∙_}
 use lib.IntN.{ℤ, pos, _-ℤ_, _*ℤ_}
@@ -12,7 +13,7 @@ use Rattle.pre_processing.specs.Parts.{msp, lsp, msp-in, msp-word, lsp-w
 use Rattle.pre_processing.proofs.recursive.Statement.{statement}
 use Rattle.pre_processing.proofs.recursive.Tie as tie
 
--- what the machine's shift by 15 gives, of a word
+-- the machine's left shift of a word by 15 is the product with 32768
 raised : (z : ℤ) → SFits w16 z → toZ w32 ((ofZ w32 z * 32768) % 4294967296) ≡ z *ℤ pos 32768
 raised z f = up-bits w32 z 15 (wide f tt) ∙ keep-plain (omega (zar, know f, scale-is z 32768))
 
@@ -60,7 +61,8 @@ add-result-3 c =
 returns : tie.Need-returns
 returns c =
     let x = c .args .l-z2 in
-    rw (back (add-result-3 c), back (add-result c), raised (c .args .s1) (s1-word c), back (mul-result c), down-bits w32 x 15 (c .fits .l-z2))
+    let high = down-bits w32 x 15 (c .fits .l-z2) in
+    rw (back (add-result-3 c), back (add-result c), raised (c .args .s1) (s1-word c), back (mul-result c), high)
     (rw (down-bits w32 _ 15 (add-result-2 c), back (mul-result-2 c), lsp-is c) (parts-decay x (c .args .s1)))
 
 pub recursive-spec : {M : Type 1} → statement M

@@ -1,3 +1,4 @@
+-- L_z2 is in its range, so the sum with 16384 fits 32 bits and the result fits 16.
 use mir.Syntax.{w32}
 use Rattle.math_integers.specs.Ranges.{back}
 use Rattle.law_arithmetic.specs.Shift.{down-bits}
