@@ -1,4 +1,4 @@
--- 4.3.3 to 4.3.7 over a frame: the 160 samples are those of four stretches, each from the cells that the one before has left.
+-- 4.3.3 to 4.3.7 over a frame: the 160 samples are those of four stretches, each from the cells that the one before gives.
 use Prim.Native.Nat.{ℕ}
 use mathlib.Core.Path.{_≡_, refl, ap, _∙_}
 use mathlib.Core.List.{List, _++_, zip}
@@ -12,16 +12,16 @@ use Rattle.standard.specs.ShortTerm.{coefficients}
 use Rattle.short_synthesis.specs.Speech.{speech, spoken, paired-length}
 use Rattle.short_ratios.specs.Stretches.{rps, coefficients-are}
 
--- the frame: v[0..7] and msr, the ratios before and now, the residual
+-- a frame, from v[0..7] and msr, the ratios of the frame before and of this one, and the residual
 unfoldable pub frame-spoken : List ℤ → ℤ → List ℤ → List ℤ → List ℤ → (List ℤ × ℤ) × List ℤ
 frame-spoken v msr old new wt = run speech (v, msr) (zip (coefficients old new) wt)
 
--- a stretch gives as many samples as it is handed
+-- a stretch gives as many samples as it takes
 pub spoken-length : (v : List ℤ) (msr : ℤ) (rrp wt : List ℤ) → length (spoken v msr rrp wt .1) ≡ length wt
 unfolding spoken
 spoken-length v msr rrp wt = run-length speech (v, msr) (zip (replicate (length wt) rrp) wt) ∙ paired-length rrp wt
 
--- what a stretch leaves, put together
+-- what a stretch gives, from its three parts
 pub spoken-parts : (v : List ℤ) (msr : ℤ) (rrp wt : List ℤ) {w : List ℤ} {m : ℤ} {y : List ℤ} → let t = spoken v msr rrp wt in
     w ≡ t .0 .0 → m ≡ t .0 .1 → y ≡ t .1 → _≡_ {A = (List ℤ × ℤ) × List ℤ} ((w, m), y) t
 spoken-parts v msr rrp wt p q r = rw (p, q, r) refl
@@ -43,12 +43,13 @@ stretch-first s n rrp rest wt h =
     let z : zip (replicate n rrp ++ rest) wt ≡ own ++ zip rest (drop n wt) = rw (take-append-drop, each) at parts in
     rw z (run-append speech s own (zip rest (drop n wt)))
 
--- the last of them, after which nothing follows
-stretch-last : (s : List ℤ × ℤ) (n : ℕ) (rrp wt : List ℤ) → length wt ≡ n → run speech s (zip (replicate n rrp) wt) ≡ spoken (s .0) (s .1) rrp (take n wt)
+-- the last stretch, after which nothing follows
+stretch-last : (s : List ℤ × ℤ) (n : ℕ) (rrp wt : List ℤ) → length wt ≡ n
+    → run speech s (zip (replicate n rrp) wt) ≡ spoken (s .0) (s .1) rrp (take n wt)
 unfolding spoken
 stretch-last s n rrp wt h = rw (take-all n wt (omega arith), h) refl
 
--- a frame is its four stretches, each from what the one before has left
+-- a frame is its four stretches, each from the cells that the one before gives
 pub frame-four : (v : List ℤ) (msr : ℤ) (old new wt : List ℤ) (s₁ s₂ s₃ s₄ : (List ℤ × ℤ) × List ℤ)
     → length wt ≡ 160
     → s₁ ≡ spoken v msr (rps 0 old new) (take 13 wt)

@@ -1,4 +1,5 @@
-// 4.3.3 to 4.3.7 over a frame: the four stretches, each with its own coefficients and from the cells that the one before has left.
+// 4.3.3 to 4.3.7 over a frame: the four stretches, each with its own coefficients. Each starts from the cells that the
+// one before returns.
 use short_synthesis::Cells;
 ghost use mathlib.Core.Path.{_≡_};
 ghost use lib.ListN.{length};

@@ -1,3 +1,5 @@
+-- Each of the four calls gives the samples of its stretch, from the cells that the call before gives. The four parts joined are
+-- the frame of the definition (`frame-four`).
 use mathlib.Core.Path.{_≡_, refl, sym, _∙_}
 use mathlib.Core.List.{List, _++_}
 use native.Mathlib.Nat.{le-of-eq}
@@ -12,125 +14,172 @@ use Rattle.frame_speech.specs.Four.{spoken-length, spoken-parts, frame-f
 use Rattle.frame_speech.proofs.frame.Statement.{statement}
 use Rattle.frame_speech.proofs.frame.Tie as tie
 
-requires : tie.Need-stretch-requires
-requires c κs = let k = c .before .before in (search needs, rw (k .coefficients .ensures) (rps-above _ _ _))
+-- ---- points of the code: a, b, c and d stand after the first, second, third and fourth stretch
 
-requires-2 : tie.Need-stretch-requires-2
-requires-2 c κs = let k = c .before .before in (search needs, rw (k .coefficients2 .ensures) (rps-above _ _ _))
+-- from after each stretch, the point after the one before it
+abbrev first-of : tie.After-stretch2 → tie.After-stretch
+first-of b = b .before .before .before .before .before
 
-requires-3 : tie.Need-stretch-requires-3
-requires-3 c κs = let k = c .before .before in (search needs, rw (k .coefficients3 .ensures) (rps-above _ _ _))
+abbrev second-of : tie.After-stretch3 → tie.After-stretch2
+second-of c = c .before .before .before .before .before
 
-end-7 : tie.Need-part-stretch-end-7
-end-7 c =
-    let s = c .before .before .before .before .before .before .before .before .before .before .before .before .before .before .before .before in
-    let h : length (s .args .wt .now) ≡ 160 = s .pre .0 in
-    search needs
+abbrev third-of : tie.After-stretch4 → tie.After-stretch3
+third-of d = d .before .before .before .before .before
 
--- what each stretch has given
+-- the start, from after each stretch
+abbrev start-1 : tie.After-stretch → tie.Start
+start-1 a = a .before .before .before .before
+
+abbrev start-2 : tie.After-stretch2 → tie.Start
+start-2 b = start-1 (first-of b)
+
+abbrev start-3 : tie.After-stretch3 → tie.Start
+start-3 c = start-2 (second-of c)
+
+abbrev start-4 : tie.After-stretch4 → tie.Start
+start-4 d = start-3 (third-of d)
+
+-- ---- what each stretch gives
+
+-- the samples
 abbrev y₁ : tie.After-stretch → List ℤ
-y₁ c = c .stretch .last .1 .1 .1 .0
+y₁ a = a .stretch .last .1 .1 .1 .0
 
 abbrev y₂ : tie.After-stretch2 → List ℤ
-y₂ c = c .stretch2 .last .1 .1 .1 .0
+y₂ b = b .stretch2 .last .1 .1 .1 .0
 
 abbrev y₃ : tie.After-stretch3 → List ℤ
 y₃ c = c .stretch3 .last .1 .1 .1 .0
 
 abbrev y₄ : tie.After-stretch4 → List ℤ
-y₄ c = c .stretch4 .last .1 .1 .1 .0
+y₄ d = d .stretch4 .last .1 .1 .1 .0
 
-one : (c : tie.After-stretch) → length (y₁ c) ≡ 13
-one c = rw (c .stretch .ensures .1 .1) (spoken-length _ _ _ _ ∙ search needs)
+-- all of it: v[0..7] and msr, and the samples
+abbrev Given : Type 0
+Given = (List ℤ × ℤ) × List ℤ
 
-two : (c : tie.After-stretch2) → length (y₂ c) ≡ 14
-two c = rw (c .stretch2 .ensures .1 .1) (spoken-length _ _ _ _ ∙ search needs)
+abbrev given-1 : tie.After-stretch → Given
+given-1 a = ((a .stretch .result .v, a .stretch .result .msr), y₁ a)
+
+abbrev given-2 : tie.After-stretch2 → Given
+given-2 b = ((b .stretch2 .result .v, b .stretch2 .result .msr), y₂ b)
+
+abbrev given-3 : tie.After-stretch3 → Given
+given-3 c = ((c .stretch3 .result .v, c .stretch3 .result .msr), y₃ c)
+
+abbrev given-4 : tie.After-stretch4 → Given
+given-4 d = ((d .stretch4 .result .v, d .stretch4 .result .msr), y₄ d)
+
+-- ---- how many samples each gives
+
+one : (a : tie.After-stretch) → length (y₁ a) ≡ 13
+one a = rw (a .stretch .ensures .1 .1) (spoken-length _ _ _ _ ∙ search needs)
+
+two : (b : tie.After-stretch2) → length (y₂ b) ≡ 14
+two b = rw (b .stretch2 .ensures .1 .1) (spoken-length _ _ _ _ ∙ search needs)
 
 three : (c : tie.After-stretch3) → length (y₃ c) ≡ 13
 three c = rw (c .stretch3 .ensures .1 .1) (spoken-length _ _ _ _ ∙ search needs)
 
-last : (c : tie.After-stretch4) → length (y₄ c) ≡ 120
-last c =
-    let w : length (c .before .before .before .before .before .before .before .before .before .before .before .before .before .before .before .before .before .before .before .args .wt .now) ≡ 160 = c .before .before .before .before .before .before .before .before .before .before .before .before .before .before .before .before .before .before .before .pre .0 in
-    rw (c .stretch4 .ensures .1 .1) (spoken-length _ _ _ _ ∙ search needs)
+last : (d : tie.After-stretch4) → length (y₄ d) ≡ 120
+last d =
+    let w : length (start-4 d .args .wt .now) ≡ 160 = start-4 d .pre .0 in
+    rw (d .stretch4 .ensures .1 .1) (spoken-length _ _ _ _ ∙ search needs)
 
--- the list that they were lent is as long as before
-lent : (c : tie.After-stretch3) → let d = c .before .before .before .before .before in let a = d .before .before .before .before .before in
-    length (lent-three (a .before .before .before .before .args .srop .now) (y₁ a) (y₂ d) (y₃ c) 13 14 13) ≡ 160
+-- the buffer, three parts of which are filled, is as long as before
+lent : (c : tie.After-stretch3)
+    → let b = second-of c in let a = first-of b in length (lent-three (start-1 a .args .srop .now) (y₁ a) (y₂ b) (y₃ c) 13 14 13) ≡ 160
 lent c =
-    let d = c .before .before .before .before .before in
-    let a = d .before .before .before .before .before in
-    let s = a .before .before .before .before in
-    three-length (s .args .srop .now) (y₁ a) (y₂ d) (y₃ c) 13 14 13 120 (one a) (two d) (three c) (s .pre .1) ∙ s .pre .1
+    let b = second-of c in
+    let a = first-of b in
+    let s = start-1 a in
+    three-length (s .args .srop .now) (y₁ a) (y₂ b) (y₃ c) 13 14 13 120 (one a) (two b) (three c) (s .pre .1) ∙ s .pre .1
+
+-- ---- what each call asks
+
+requires : tie.Need-stretch-requires
+requires p κs = (search needs, rw (p .before .before .coefficients .ensures) (rps-above _ _ _))
+
+requires-2 : tie.Need-stretch-requires-2
+requires-2 p κs = (search needs, rw (p .before .before .coefficients2 .ensures) (rps-above _ _ _))
+
+requires-3 : tie.Need-stretch-requires-3
+requires-3 p κs = (search needs, rw (p .before .before .coefficients3 .ensures) (rps-above _ _ _))
+
+end-7 : tie.Need-part-stretch-end-7
+end-7 p =
+    let s = start-3 (p .before .before) in
+    let h : length (s .args .wt .now) ≡ 160 = s .pre .0 in
+    search needs
 
 end-8 : tie.Need-part-stretch-end-8
-end-8 c = le-of-eq (sym (lent (c .before .before .before)))
+end-8 p = le-of-eq (sym (lent (p .before .before .before)))
 
 requires-4 : tie.Need-stretch-requires-4
-requires-4 c κs =
-    let k = c .before .before in
-    let s = k .before .before .before .before .before .before .before .before .before .before .before .before .before .before .before .before in
+requires-4 p κs =
+    let k = p .before .before in
+    let s = start-3 (k .before .before) in
     let g : length (s .args .wt .now) ≡ 160 = s .pre .0 in
     let h : length (s .args .srop .now) ≡ 160 = s .pre .1 in
     (search needs, rw (k .coefficients4 .ensures) (rps-above _ _ _))
 
--- a stretch's answer, with its coefficients named
-first : (c : tie.After-stretch) → let s = c .before .before .before .before in
-    _≡_ {A = (List ℤ × ℤ) × List ℤ} ((c .stretch .result .v, c .stretch .result .msr), y₁ c)
-    (spoken (s .args .s .v) (s .args .s .msr) (rps 0 (s .args .old) (s .args .new)) (take 13 (s .args .wt .now)))
-first c =
-    let e = rw (c .before .before .before .coefficients .ensures) at (c .stretch .ensures) in
+-- ---- what each stretch gives is the definition's, with its coefficients named
+
+first : (a : tie.After-stretch) → let s = start-1 a .args in
+    given-1 a ≡ spoken (s .s .v) (s .s .msr) (rps 0 (s .old) (s .new)) (take 13 (s .wt .now))
+first a =
+    let e = rw (a .before .before .before .coefficients .ensures) at (a .stretch .ensures) in
     spoken-parts _ _ _ _ (e .0) (e .1 .0) (e .1 .1)
 
-second : (c : tie.After-stretch2) → let a = c .before .before .before .before .before in let s = a .before .before .before .before in
-    _≡_ {A = (List ℤ × ℤ) × List ℤ} ((c .stretch2 .result .v, c .stretch2 .result .msr), y₂ c)
-    (spoken (a .stretch .result .v) (a .stretch .result .msr) (rps 1 (s .args .old) (s .args .new)) (take 14 (drop 13 (s .args .wt .now))))
-second c =
-    let e = rw (c .before .before .before .coefficients2 .ensures) at (c .stretch2 .ensures) in
+second : (b : tie.After-stretch2) → let r = first-of b .stretch .result in let s = start-2 b .args in
+    given-2 b ≡ spoken (r .v) (r .msr) (rps 1 (s .old) (s .new)) (take 14 (drop 13 (s .wt .now)))
+second b =
+    let e = rw (b .before .before .before .coefficients2 .ensures) at (b .stretch2 .ensures) in
     spoken-parts _ _ _ _ (e .0) (e .1 .0) (e .1 .1)
 
-third : (c : tie.After-stretch3) → let d = c .before .before .before .before .before in let s = d .before .before .before .before .before .before .before .before .before in
-    _≡_ {A = (List ℤ × ℤ) × List ℤ} ((c .stretch3 .result .v, c .stretch3 .result .msr), y₃ c)
-    (spoken (d .stretch2 .result .v) (d .stretch2 .result .msr) (rps 2 (s .args .old) (s .args .new)) (take 13 (drop 27 (s .args .wt .now))))
+third : (c : tie.After-stretch3) → let r = second-of c .stretch2 .result in let s = start-3 c .args in
+    given-3 c ≡ spoken (r .v) (r .msr) (rps 2 (s .old) (s .new)) (take 13 (drop 27 (s .wt .now)))
 third c =
     let e = rw (c .before .before .before .coefficients3 .ensures) at (c .stretch3 .ensures) in
     spoken-parts _ _ _ _ (e .0) (e .1 .0) (e .1 .1)
 
-fourth : (c : tie.After-stretch4) → let d = c .before .before .before .before .before in let s = d .before .before .before .before .before .before .before .before .before .before .before .before .before .before in
-    _≡_ {A = (List ℤ × ℤ) × List ℤ} ((c .stretch4 .result .v, c .stretch4 .result .msr), y₄ c)
-    (spoken (d .stretch3 .result .v) (d .stretch3 .result .msr) (rps 3 (s .args .old) (s .args .new)) (take 120 (drop 40 (s .args .wt .now))))
-fourth c =
-    let e = rw (c .before .before .before .coefficients4 .ensures) at (c .stretch4 .ensures) in
+fourth : (d : tie.After-stretch4) → let r = third-of d .stretch3 .result in let s = start-4 d .args in
+    given-4 d ≡ spoken (r .v) (r .msr) (rps 3 (s .old) (s .new)) (take 120 (drop 40 (s .wt .now)))
+fourth d =
+    let e = rw (d .before .before .before .coefficients4 .ensures) at (d .stretch4 .ensures) in
     spoken-parts _ _ _ _ (e .0) (e .1 .0) (e .1 .1)
 
--- the four parts are the list
-parts : (c : tie.After-stretch4) → let e = c .before .before .before .before .before in let d = e .before .before .before .before .before in let a = d .before .before .before .before .before in
-    lent-four (a .before .before .before .before .args .srop .now) (y₁ a) (y₂ d) (y₃ e) 13 14 13 (y₄ c) 120 ≡ y₁ a ++ (y₂ d ++ (y₃ e ++ y₄ c))
-parts c =
-    let e = c .before .before .before .before .before in
-    let d = e .before .before .before .before .before in
-    let a = d .before .before .before .before .before in
-    let s = a .before .before .before .before in
-    four (s .args .srop .now) (y₁ a) (y₂ d) (y₃ e) 13 14 13 120 (one a) (two d) (three e) (s .pre .1) (y₄ c) (last c)
+-- ---- the frame
+
+-- the buffer is the four parts, joined
+parts : (d : tie.After-stretch4) → let c = third-of d in let b = second-of c in let a = first-of b in
+    lent-four (start-4 d .args .srop .now) (y₁ a) (y₂ b) (y₃ c) 13 14 13 (y₄ d) 120 ≡ y₁ a ++ (y₂ b ++ (y₃ c ++ y₄ d))
+parts d =
+    let c = third-of d in
+    let b = second-of c in
+    let a = first-of b in
+    let s = start-4 d in
+    four (s .args .srop .now) (y₁ a) (y₂ b) (y₃ c) 13 14 13 120 (one a) (two b) (three c) (s .pre .1) (y₄ d) (last d)
 
 same-length : tie.Need-same-length
-same-length c =
-    let f = c .before in
-    let e = f .before .before .before .before .before in
-    let d = e .before .before .before .before .before in
-    let a = d .before .before .before .before .before in
-    let s = a .before .before .before .before in
-    four-length (s .args .srop .now) (y₁ a) (y₂ d) (y₃ e) 13 14 13 120 (one a) (two d) (three e) (s .pre .1) (y₄ f) (last f)
+same-length p =
+    let d = p .before in
+    let c = third-of d in
+    let b = second-of c in
+    let a = first-of b in
+    let s = start-4 d in
+    four-length (s .args .srop .now) (y₁ a) (y₂ b) (y₃ c) 13 14 13 120 (one a) (two b) (three c) (s .pre .1) (y₄ d) (last d)
 
 returns : tie.Need-returns
-returns c =
-    let f = c .before in
-    let e = f .before .before .before .before .before in
-    let d = e .before .before .before .before .before in
-    let a = d .before .before .before .before .before in
-    let s = a .before .before .before .before in
-    let t = frame-four (s .args .s .v) (s .args .s .msr) (s .args .old) (s .args .new) (s .args .wt .now) _ _ _ _ (s .pre .0) (first a) (second d) (third e) (fourth f) in
-    rw t (refl, (refl, parts f))
+returns p =
+    let d = p .before in
+    let c = third-of d in
+    let b = second-of c in
+    let a = first-of b in
+    let s = start-4 d .args in
+    let t =
+    frame-four (s .s .v) (s .s .msr) (s .old) (s .new) (s .wt .now) _ _ _ _ (start-4 d .pre .0) (first a) (second b) (third c) (fourth d) in
+    rw t (refl, (refl, parts d))
 
 pub frame-spec : {M : Type 1} → statement M
 frame-spec =

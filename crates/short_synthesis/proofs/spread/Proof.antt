@@ -8,49 +8,74 @@ use Rattle.short_synthesis.specs.Lattice.{eight-is, widened, widened-fit
 use Rattle.short_synthesis.proofs.spread.Statement.{statement}
 use Rattle.short_synthesis.proofs.spread.Tie as tie
 
+-- the start, from where each of the eight is read
+abbrev entry-0 : tie.After-t5 → tie.Start
+entry-0 c = c .before
+
+abbrev entry-1 : tie.After-t9 → tie.Start
+entry-1 c = entry-0 (c .before)
+
+abbrev entry-2 : tie.After-t13 → tie.Start
+entry-2 c = entry-1 (c .before)
+
+abbrev entry-3 : tie.After-t17 → tie.Start
+entry-3 c = entry-2 (c .before)
+
+abbrev entry-4 : tie.After-t21 → tie.Start
+entry-4 c = entry-3 (c .before)
+
+abbrev entry-5 : tie.After-t25 → tie.Start
+entry-5 c = entry-4 (c .before)
+
+abbrev entry-6 : tie.After-t29 → tie.Start
+entry-6 c = entry-5 (c .before)
+
+abbrev entry-7 : tie.After-t33 → tie.Start
+entry-7 c = entry-6 (c .before)
+
 cast-t6 : tie.Need-cast-t6
 cast-t6 c =
-    let f : SFits w16 (c .before .args .t1 at 0) = search needs in
+    let f : SFits w16 (entry-0 c .args .t1 at 0) = search needs in
     widened-fits _ f
 
 cast-t10 : tie.Need-cast-t10
 cast-t10 c =
-    let f : SFits w16 (c .before .before .args .t1 at 1) = search needs in
+    let f : SFits w16 (entry-1 c .args .t1 at 1) = search needs in
     widened-fits _ f
 
 cast-t14 : tie.Need-cast-t14
 cast-t14 c =
-    let f : SFits w16 (c .before .before .before .args .t1 at 2) = search needs in
+    let f : SFits w16 (entry-2 c .args .t1 at 2) = search needs in
     widened-fits _ f
 
 cast-t18 : tie.Need-cast-t18
 cast-t18 c =
-    let f : SFits w16 (c .before .before .before .before .args .t1 at 3) = search needs in
+    let f : SFits w16 (entry-3 c .args .t1 at 3) = search needs in
     widened-fits _ f
 
 cast-t22 : tie.Need-cast-t22
 cast-t22 c =
-    let f : SFits w16 (c .before .before .before .before .before .args .t1 at 4) = search needs in
+    let f : SFits w16 (entry-4 c .args .t1 at 4) = search needs in
     widened-fits _ f
 
 cast-t26 : tie.Need-cast-t26
 cast-t26 c =
-    let f : SFits w16 (c .before .before .before .before .before .before .args .t1 at 5) = search needs in
+    let f : SFits w16 (entry-5 c .args .t1 at 5) = search needs in
     widened-fits _ f
 
 cast-t30 : tie.Need-cast-t30
 cast-t30 c =
-    let f : SFits w16 (c .before .before .before .before .before .before .before .args .t1 at 6) = search needs in
+    let f : SFits w16 (entry-6 c .args .t1 at 6) = search needs in
     widened-fits _ f
 
 cast-t34 : tie.Need-cast-t34
 cast-t34 c =
-    let f : SFits w16 (c .before .before .before .before .before .before .before .before .args .t1 at 7) = search needs in
+    let f : SFits w16 (entry-7 c .args .t1 at 7) = search needs in
     widened-fits _ f
 
 returns : tie.Need-returns
 returns c =
-    let a = c .before .before .before .before .before .before .before .before .args .t1 in
+    let a = entry-7 c .args .t1 in
     let f0 : SFits w16 (a at 0) = search needs in
     let f1 : SFits w16 (a at 1) = search needs in
     let f2 : SFits w16 (a at 2) = search needs in
