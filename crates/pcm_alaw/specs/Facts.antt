@@ -1,4 +1,4 @@
--- What holds of every code and every value (02, W-204): each code comes back, its range, the one segment; and the samples of any octets are words.
+-- House rules, 'A-law', for every code and every value: a code comes back, its range, the one segment; samples of octets are words.
 use Prim.Native.Nat.{ℕ, _+_, _-_, _/_, _%_, _<_, _≤_}
 use mathlib.Core.Path.{_≡_, refl, ap}
 use mathlib.Core.Bool.{Bool, true, not, _&&_, _||_, and-eq-true-iff}
@@ -19,7 +19,7 @@ use Rattle.standard.specs.Alaw.{turned, magnitude, expanded, in-segment, segmen
 use Rattle.law_arithmetic.specs.Within.{word, range-yes}
 use Rattle.pcm_alaw.specs.Rules.{placed-below}
 
--- ---- "Compressing an expanded code gives that code back"
+-- ---- a code that is expanded and then compressed is the same code again
 
 all-back : every (λ c. eqb (compressed (expanded c)) c) (tab (λ c. c) 0 256) ≡ true
 unfolding every tab first magnitude expanded segment placed compressed
@@ -28,9 +28,9 @@ all-back = refl
 pub compress-expand : (c : ℕ) → c < 256 → compressed (expanded c) ≡ c
 compress-expand c h = eqb-true (compressed (expanded c)) c (every-tab _ (λ c. c) 256 c all-back h)
 
--- ---- the range of a value: from 1 to 4032 either way, whatever the code
+-- ---- the magnitude of a value is from 1 to 4032, for every code
 
--- segments and steps, one beside the other
+-- for all 128 pairs of segment and step, by one computed test
 all-magnitudes : every (λ k. leb 1 (magnitude (k / 16) (k % 16)) && leb (magnitude (k / 16) (k % 16)) 4032) (tab (λ k. k) 0 128) ≡ true
 unfolding every tab magnitude
 all-magnitudes = refl
@@ -52,17 +52,17 @@ expanded-range c =
     (λ _. omega (arith, abs-is (neg m), neg-is (pos m), r))
     (λ _. r)
 
--- "at most 4032"
+-- the magnitude is at most 4032
 pub expanded-most : (c : ℕ) → natAbs (expanded c) ≤ 4032
 expanded-most c = expanded-range c .1
 
--- no code is silence
+-- no code stands for 0
 pub never-zero : (c : ℕ) → ¬ (expanded c ≡ pos 0)
 never-zero c e = let l : natAbs (expanded c) ≡ 0 = ap natAbs e in absurd (omega (arith, expanded-range c))
 
--- ---- "the segment is the one"
+-- ---- there is one segment, and no other
 
--- the test of a place says whether the segment is there
+-- if the quotient test holds for s, then s is the segment
 abbrev as-said : ℕ → ℕ → Bool
 as-said n s = not (in-segment n s) || eqb s (segment n)
 
@@ -73,9 +73,10 @@ all-segments : every
 unfolding every tab first segment
 all-segments = refl
 
--- from 32 to 4095 it is from 1 to 7, its quotient is 16 to 31, and no other's is
+-- from 32 to 4095 the segment is from 1 to 7, its quotient is 16 to 31, and no other segment has such a quotient
 pub one-segment : (n : ℕ) → 32 ≤ n → n < 4096
-    → (1 ≤ segment n) × (segment n ≤ 7) × (in-segment n (segment n) ≡ true) × ((s : ℕ) → 1 ≤ s → s ≤ 7 → in-segment n s ≡ true → s ≡ segment n)
+    → (1 ≤ segment n) × (segment n ≤ 7) × (in-segment n (segment n) ≡ true)
+    × ((s : ℕ) → 1 ≤ s → s ≤ 7 → in-segment n s ≡ true → s ≡ segment n)
 one-segment n l h =
     let place : 32 + (n - 32) ≡ n = omega arith in
     let t = rw place at (every-tab _ (32 +_) 4064 (n - 32) all-segments (omega arith)) in
@@ -104,7 +105,7 @@ unfolding compressed
 compressed-byte (pos n) = turned-byte (128 + placed (limited n)) (omega (arith, placed-below (limited n) (omega arith)))
 compressed-byte (negsuc n) = turned-byte (placed (limited n)) (omega (arith, placed-below (limited n) (omega arith)))
 
--- ---- samples are words, whatever the octets
+-- ---- samples are words, for all octets
 
 sample-word : (c : ℕ) → word (expanded c *ℤ pos 8) ≡ true
 sample-word c =
@@ -117,7 +118,7 @@ pub samples-words : (octets : List ℕ) → every word (alaw-samples octets) ≡
 unfolding alaw-samples
 samples-words octets = rw every-map (every-all (λ c. word (expanded c *ℤ pos 8)) sample-word octets)
 
--- ---- one for one
+-- ---- as many samples as octets, and as many octets as samples
 
 pub samples-length : (octets : List ℕ) → length (alaw-samples octets) ≡ length octets
 unfolding alaw-samples

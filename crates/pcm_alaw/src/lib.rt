@@ -1,4 +1,5 @@
-// A-law (02, W-204): the 13-bit value of a code and the code of a value; and a frame's octets as samples, its samples as octets.
+// A-law (request W-204; house rules, 'A-law'): the 13-bit value of a code, the code of a value, the samples that octets
+// stand for, and the octets of samples.
 ghost use mathlib.Core.Path.{_≡_};
 ghost use Prim.Native.Nat.{_<_, _≤_, min};
 ghost use lib.IntN.{pos, _*ℤ_, natAbs};
@@ -7,7 +8,7 @@ ghost use Rattle.math_lists.specs.Tab.{tab};
 ghost use Rattle.standard.specs.Alaw.{expanded, placed, compressed, alaw-samples, alaw-octets};
 ghost use Rattle.pcm_alaw.specs.Rules.{counted};
 
-// The value of each code. It is the rule, by one computed test over all of it (`table`).
+// The value of each code. One computed test over the whole table shows that it obeys the rule (`table`).
 const EXPANDED: [i16; 256] = [
     -688,
     -656,
@@ -267,14 +268,14 @@ const EXPANDED: [i16; 256] = [
     106,
 ];
 
-// The table as a local: a constant that is indexed in a loop is copied at each turn.
+// The table as a local variable. A constant that is indexed in a loop is copied in each iteration.
 fn table() -> [i16; 256]
     ensures { λ r. ⌜ r ≡ tab expanded 0 256 ⌝ }
 {
     EXPANDED
 }
 
-// A code as a place of the table.
+// A code as an index of the table.
 fn place(code: u8) -> usize
     ensures is { λ r. ⌜ r ≡ code ⌝ }
     ensures below { λ r. ⌜ r < 256 ⌝ }
@@ -291,14 +292,16 @@ pub fn expand(code: u8) -> i16
     t[at]
 }
 
+// The smaller of two numbers.
 fn least(a: u16, b: u16) -> u16
     ensures { λ r. ⌜ r ≡ min a b ⌝ }
 {
     if a < b { a } else { b }
 }
 
-// Segment and step of a value of 12 bits. Each segment is a stretch of a line, with a step for each 2^s values, and at every value the line of
-// its own segment is the least of the seven: so none has to be looked for. Segments 0 and 1 lie on one line.
+// Segment and step of a value of 12 bits. Each segment s lies on a line with one step for each 2^s values. At every
+// value the line of its own segment is the least of the seven lines, so the segment need not be searched for. Segments
+// 0 and 1 lie on one line.
 fn placed(n: u16) -> u8
     requires { ⌜ n < 4096 ⌝ }
     ensures is { λ r. ⌜ r ≡ placed n ⌝ }
@@ -309,15 +312,15 @@ fn placed(n: u16) -> u8
     least(low, least(n / 16 + 48, high)) as u8
 }
 
-// The value that counts for v: -v - 1 for a negative one.
+// The number that is taken for v: -v - 1 if v is negative, else v itself.
 fn counted(v: i16) -> u16
     ensures { λ r. ⌜ r ≡ counted v ⌝ }
 {
     if v < 0 { (-1 - v) as u16 } else { v as u16 }
 }
 
-// The code of a value: its place, the top bit set unless it is negative, the even bits inverted. One beyond 13 bits has the code of the
-// nearest end.
+// The code of a value: its segment and step, the top bit set unless the value is negative, the even bits inverted. A
+// value beyond 13 bits has the code of the nearest end of the range.
 pub fn compress(v: i16) -> u8
     ensures { λ r. ⌜ r ≡ compressed v ⌝ }
 {
@@ -325,7 +328,7 @@ pub fn compress(v: i16) -> u8
     if v < 0 { c ^ 0x55 } else { (128 + c) ^ 0x55 }
 }
 
-// The sample of a 13-bit value.
+// The sample of a 13-bit value: 8 times the value.
 fn sample(v: i16) -> i16
     requires { ⌜ natAbs v ≤ 4032 ⌝ }
     ensures { λ r. ⌜ r ≡ v *ℤ pos 8 ⌝ }

@@ -1,4 +1,4 @@
--- The code of a value: segment and step, the top bit by the sign, the even bits inverted.
+-- Two cases of the sign. In each the calls give segment and step of the number taken, and `turned` inverts the even bits.
 use Prim.Native.Nat.{_+_}
 use mathlib.Core.Path.{_≡_, sym, ap, _∙_}
 use native.Mathlib.Omega.{arith}
@@ -10,7 +10,7 @@ use Rattle.pcm_alaw.specs.Rules.{counted, compressed-negative, compresse
 use Rattle.pcm_alaw.proofs.compress.Statement.{statement}
 use Rattle.pcm_alaw.proofs.compress.Tie as tie
 
--- the place of the value that counts
+-- segment and step of the number taken
 place : (c : tie.After-placed) → c .placed .result ≡ placed (limited (counted (c .before .before .before .args .v)))
 place c =
     let counted = c .before .before in

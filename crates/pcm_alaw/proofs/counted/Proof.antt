@@ -1,4 +1,4 @@
--- The value that counts, by the sign.
+-- Two cases of the sign. -1 - v fits a word and is not negative where v is below 0, so the cast keeps it.
 use lib.IntN.{negsuc, _-ℤ_}
 use mir.Syntax.{w16}
 use mir.Val.{SFits}

@@ -1,4 +1,4 @@
--- The entry of the table at the code's place is the rule's value.
+-- The table is the rule at all 256 codes (`table`), so the entry at a code is the value of the rule.
 use Prim.Native.Nat.{ℕ}
 use mathlib.Core.Path.{ap₂, _∙_}
 use mathlib.Core.List.{List}

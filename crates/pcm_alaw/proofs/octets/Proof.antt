@@ -1,4 +1,4 @@
--- The loop fills the room with the octets, one for each sample.
+-- Iteration i stores the code of sample i divided by 8. At the end the buffer is `alaw-octets`.
 use Prim.Native.Nat.{_-_, _≤_}
 use mathlib.Core.Path.{_≡_}
 use native.Mathlib.Omega.{arith}
@@ -17,7 +17,8 @@ use Rattle.pcm_alaw.proofs.octets.Statement.{statement}
 use Rattle.pcm_alaw.proofs.octets.Tie as tie
 
 abbrev Inv-loop : tie.InvT-loop
-Inv-loop samples octets₀ i₀ i-end octets i = (i ≤ length samples) × (length octets ≡ length samples) × (octets ≡ filled i (alaw-octets samples) octets₀)
+Inv-loop samples octets₀ i₀ i-end octets i =
+    (i ≤ length samples) × (length octets ≡ length samples) × (octets ≡ filled i (alaw-octets samples) octets₀)
 
 abbrev μ-loop : tie.MeasureT-loop
 μ-loop samples octets₀ i₀ i-end octets i = length samples - i
@@ -34,14 +35,16 @@ loop-again c =
     cc (back word, back (shr-fits 8 word), c .compress .ensures, map-at (λ x. compressed (x >> 3)) samples i (pos 0) 0 (omega arith)) in (
       omega arith,
       simp length-set (turn .loop .inv .1),
-      fill-next (alaw-octets samples) (start .args .octets .now) i (turn .loop .inv .2) 0 (omega (arith, octets-length samples)) (omega arith) own,
+      fill-next (alaw-octets samples) (start .args .octets .now) i (turn .loop .inv .2) 0
+          (omega (arith, octets-length samples)) (omega arith) own,
     )
 
 returns : tie.Need-returns Inv-loop μ-loop
 returns c =
     let start = c .before .before .before in
     let samples = start .args .samples .now in
-    fill-end (alaw-octets samples) (start .args .octets .now) (c .before .loop .i) (c .before .loop .inv .2) (omega (arith, octets-length samples)) (omega arith)
+    fill-end (alaw-octets samples) (start .args .octets .now) (c .before .loop .i) (c .before .loop .inv .2)
+    (omega (arith, octets-length samples)) (omega arith)
 
 pub octets-spec : {M : Type 1} → statement M
 octets-spec =

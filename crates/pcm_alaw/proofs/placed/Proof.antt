@@ -1,4 +1,4 @@
--- The least of the seven lines is segment and step.
+-- The six calls give the least of the seven lines, and that is segment and step (`placed-lines`).
 use Prim.Native.Nat.{_<_}
 use mathlib.Core.Path.{_≡_, sym, _∙_}
 use native.Mathlib.Omega.{arith}
@@ -21,7 +21,14 @@ is-placed c =
     let start = one .before in
     let n = start .args .n in
     let least : c .least6 .result ≡ lines n =
-    cc (one .least .ensures, two .least2 .ensures, three .least3 .ensures, four .least4 .ensures, five .least5 .ensures, c .least6 .ensures) in
+    cc (
+      one .least .ensures,
+      two .least2 .ensures,
+      three .least3 .ensures,
+      four .least4 .ensures,
+      five .least5 .ensures,
+      c .least6 .ensures,
+    ) in
     let e = least ∙ sym (placed-lines n (start .pre)) in
     (e, rw e (placed-below n (start .pre)))
 

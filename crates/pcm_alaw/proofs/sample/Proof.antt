@@ -1,4 +1,4 @@
--- Eight times a value of 13 bits is a word.
+-- A value of at most 4032 in size, times 8, fits a word.
 use mathlib.Core.Path.{_∙_}
 use Rattle.math_integers.specs.Halves.{zar, know}
 use Rattle.math_integers.specs.Sums.{scale-is}

@@ -1,4 +1,4 @@
--- The loop fills the room with the samples, one for each octet; the table is copied once, before it.
+-- Iteration i stores 8 times the table's entry at octet i. The table is the rule, so at the end the buffer is `alaw-samples`.
 use Prim.Native.Nat.{ℕ, _-_, _≤_}
 use mathlib.Core.Path.{_≡_, ap, _∙_}
 use mathlib.Core.List.{List}
@@ -23,9 +23,10 @@ Inv-loop octets samples₀ t i₀ i-end samples i =
 abbrev μ-loop : tie.MeasureT-loop
 μ-loop octets samples₀ t i₀ i-end samples i = length octets - i
 
--- the entry that a turn reads is the value of its octet
+-- the entry that an iteration reads is the value of its octet
 entry : (c : tie.After-sample-arg Inv-loop μ-loop) → let turn = c .before .before .before .before in let tabled = turn .before in
-    getD (tabled .table .result) (c .before .place .result) (pos 0) ≡ expanded (getD (tabled .before .before .args .octets .now) (turn .loop .i) 0)
+    getD (tabled .table .result) (c .before .place .result) (pos 0)
+    ≡ expanded (getD (tabled .before .before .args .octets .now) (turn .loop .i) 0)
 entry c =
     let placed = c .before in
     let turn = placed .before .before .before in
@@ -54,14 +55,16 @@ loop-again c =
     cc (res (c .sample), c .sample .ensures, back (sfits-of (read .sample-arg .given)), entry read, target) in (
       omega arith,
       simp length-set (turn .loop .inv .1),
-      fill-next (alaw-samples octets) (start .args .samples .now) i (turn .loop .inv .2) (pos 0) (omega (arith, samples-length octets)) (omega arith) own,
+      fill-next (alaw-samples octets) (start .args .samples .now) i (turn .loop .inv .2) (pos 0)
+          (omega (arith, samples-length octets)) (omega arith) own,
     )
 
 returns : tie.Need-returns Inv-loop μ-loop
 returns c =
     let start = c .before .before .before .before in
     let octets = start .args .octets .now in
-    fill-end (alaw-samples octets) (start .args .samples .now) (c .before .loop .i) (c .before .loop .inv .2) (omega (arith, samples-length octets)) (omega arith)
+    fill-end (alaw-samples octets) (start .args .samples .now) (c .before .loop .i) (c .before .loop .inv .2)
+    (omega (arith, samples-length octets)) (omega arith)
 
 pub samples-spec : {M : Type 1} → statement M
 samples-spec =

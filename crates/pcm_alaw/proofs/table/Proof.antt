@@ -1,4 +1,4 @@
--- The table is the rule, code by code: one computed test.
+-- The table equals the rule at all 256 codes: one computed test.
 use mathlib.Core.Path.{refl}
 use Rattle.math_lists.specs.Tab.{tab}
 use Rattle.standard.specs.Alaw.{magnitude, expanded}
