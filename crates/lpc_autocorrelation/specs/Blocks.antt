@@ -25,11 +25,11 @@ use Rattle.lpc_autocorrelation.specs.Bounds.{small-room, small-in, L-ACF
 abbrev pub padded : List ℤ → List ℤ
 padded s = replicate 8 (pos 0) ++ s
 
--- n products, from places a and b on
+-- the sum of n products, from indices a and b on
 abbrev pub products : List ℤ → ℕ → ℕ → ℕ → ℤ
 products z n a b = L-sum (pos 0) (take n (drop a z)) (take n (drop b z))
 
--- the first n at distance k
+-- that of the first n at distance k
 abbrev pub upto : List ℤ → ℕ → ℕ → ℤ
 upto z k n = products z n 8 (8 - k)
 
@@ -49,7 +49,7 @@ module _ (z : List ℤ) (l : length z ≡ 168) (p : every (at-most 2048) z ≡ t
     few : length (take n (drop a z)) ≤ 160
     few = rw (part-length a u) q
 
-    -- there is room for them
+    -- the code may add them on 32 bits
     pub parts-room : Room (take n (drop a z)) (take n (drop b z))
     parts-room = small-room _ _ same few (part-small a) (part-small b)
 
@@ -96,7 +96,7 @@ module _ (s : List ℤ) (l : length s ≡ 160) (p : every (at-most 2048) s ≡ t
   padded-small = rw (every-append (at-most 2048) (replicate 8 (pos 0)) s, every-replicate (at-most 2048) 8 (pos 0) refl) p
 
   module _ (k : ℕ) (h : k < 9) where
-    -- from k places before the samples on
+    -- the list from k before the samples on
     before : drop (8 - k) (padded s) ≡ replicate k (pos 0) ++ s
     before =
         let e : (8 - k) + k ≡ 8 = omega arith in
@@ -113,7 +113,7 @@ module _ (s : List ℤ) (l : length s ≡ 160) (p : every (at-most 2048) s ≡ t
         ap (λ (t : List ℤ). L-sum (pos 0) (take k s) (take k t)) before
         ∙ rw (take-at z s k (length-replicate k (pos 0))) (zeros-sum (take k s) k (length-take-le k s (omega arith)))
 
-    -- the others are those of 001
+    -- the others are those of 4.2.4
     others : products (padded s) (160 - k) (8 + k) ((8 - k) + k) ≡ L-ACF s at k
     others =
         let e : (8 - k) + k ≡ 8 = omega arith in

@@ -1,5 +1,5 @@
--- 01, sum (b): the scaled samples are within 2048, the nine sums within 1342177280, and none is larger than the first; so 4.2.5's
--- normalisation loses nothing.
+-- House rules, 'Six sums' (b): the scaled samples are at most 2048 in size, the nine sums at most 1342177280, and none is larger
+-- than the first; so 4.2.5's normalisation loses nothing.
 use Prim.Native.Nat.{ℕ, _+_, _*_, _-_, _^_, _≤_, _<_}
 use mathlib.Core.Path.{_≡_, sym, ap, _∙_}
 use mathlib.Core.Bool.{true}
@@ -56,7 +56,8 @@ scaled-small s w = ⊎-elim small unscaled (scale-cases s)
 
 -- ---- a sum over two lists of them
 
-module _ (a b : List ℤ) (l : length a ≡ length b) (m : length a ≤ 160) (p : every (at-most 2048) a ≡ true) (q : every (at-most 2048) b ≡ true) where
+module _ (a b : List ℤ) (l : length a ≡ length b) (m : length a ≤ 160)
+    (p : every (at-most 2048) a ≡ true) (q : every (at-most 2048) b ≡ true) where
   product-in : (i : ℕ) → i < length a → natAbs (a at i *ℤ b at i) ≤ 4194304
   product-in i h =
       let x = a at i in
@@ -68,11 +69,11 @@ module _ (a b : List ℤ) (l : length a ≡ length b) (m : length a ≤ 160) (p 
   products-fit : length a * 4194304 < 1073741824
   products-fit = omega arith
 
-  -- there is room for it
+  -- the code may add it on 32 bits
   pub small-room : Room a b
   small-room = record { same = l; most = 4194304; each = λ i h _ _. product-in i h; fits = products-fit }
 
-  -- no step of it meets a limit
+  -- no step of it saturates
   small-steps : L-sum (pos 0) a b ≡ foldl _+ℤ_ (pos 0) (zipWith L-mult a b)
   small-steps = L-sum-steps a b 4194304 l product-in products-fit
 
@@ -123,7 +124,7 @@ module _ (s : List ℤ) (l : length s ≡ 160) (h : every (at-most 2048) s ≡ t
   early-small : every (at-most 2048) early ≡ true
   early-small = every-take (at-most 2048) (160 - k) s h
 
-  -- no step of it meets a limit: it is the plain sum of the products, each doubled
+  -- no step of it saturates: it is the plain sum of the products, each doubled
   pub L-ACF-steps : L-ACF s at k ≡ foldl _+ℤ_ (pos 0) (zipWith L-mult (drop k s) s)
   L-ACF-steps = rw (front s l k p L-mult) (L-ACF-at s l k p ∙ small-steps late early same few late-small early-small)
 

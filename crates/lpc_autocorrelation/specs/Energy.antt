@@ -1,4 +1,4 @@
--- The energy of a list, and that no sum of products of two lists is larger than half the energies of both.
+-- The energy of a list, and that twice a sum of products of two lists is at most the sum of their energies.
 use Prim.Native.Nat.{ℕ, _+_, _*_, _-_, _≤_}
 use mathlib.Core.Path.{_≡_, refl, ap, _∙_}
 use mathlib.Core.Logic.{⊎-elim}
@@ -20,11 +20,11 @@ unfolding energy
 energy-append [] b = omega arith
 energy-append (x ∷ a) b = omega (arith, energy-append a b)
 
--- the front of a list has no more than the list
+-- the front of a list has at most the energy of the list
 pub energy-take : (n : ℕ) (a : List ℤ) → energy (take n a) ≤ energy a
 energy-take n a = omega (arith, energy-append (take n a) (drop n a), ap energy (take-append-drop n a))
 
--- nor has the rest
+-- and so has the rest
 pub energy-drop : (n : ℕ) (a : List ℤ) → energy (drop n a) ≤ energy a
 energy-drop n a = omega (arith, energy-append (take n a) (drop n a), ap energy (take-append-drop n a))
 
@@ -45,7 +45,7 @@ squares-from s (x ∷ a) =
 pub squares : (a : List ℤ) → foldl _+ℤ_ (pos 0) (zipWith _*ℤ_ a a) ≡ pos (energy a)
 squares a = squares-from (pos 0) a ∙ omega (zar, add-is (pos 0) (pos (energy a)))
 
--- twice the product of two numbers is no more than their squares
+-- twice the product of two numbers is at most the sum of their squares
 mean : (a b : ℕ) → 2 * (a * b) ≤ a * a + b * b
 mean a b = ⊎-elim (λ h. ordered a b h) (λ h. omega (arith, ordered b a (omega arith))) (le-or-lt a b)
   where
@@ -64,6 +64,6 @@ products-from s (x ∷ a) (y ∷ b) =
     let m = mul-in (natAbs x) (natAbs y) x y (omega (arith, abs-is x)) (omega (arith, abs-is y)) in
     omega (arith, products-from z a b, mean (natAbs x) (natAbs y), m, add-is s (x *ℤ y), abs-is s, abs-is z, abs-is (x *ℤ y))
 
--- and twice a sum of products no more than the two energies
+-- and twice a sum of products at most the sum of the two energies
 pub products-most : (a b : List ℤ) → 2 * natAbs (foldl _+ℤ_ (pos 0) (zipWith _*ℤ_ a b)) ≤ energy a + energy b
 products-most a b = omega (arith, products-from (pos 0) a b)

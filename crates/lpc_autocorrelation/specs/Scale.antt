@@ -1,4 +1,4 @@
--- 4.2.4: the scale. Which sizes have which, what it makes of a sample, and of which samples the scaling back loses something.
+-- 4.2.4: which largest sizes have which scale, what the scaling does to a sample, and which samples lose bits in the scaling back.
 use Prim.Native.Nat.{ℕ, suc, _+_, _*_, _-_, _/_, _^_, _≤_, _<_, min}
 use mathlib.Core.Path.{_≡_, refl, sym, ap, _∙_}
 use mathlib.Core.Bool.{true, false}
@@ -29,7 +29,7 @@ use Rattle.law_fields.specs.Amplitudes.{peak-halves, peak-up, peak-covers}
 
 -- ---- smax
 
--- no sample has a larger size, but −32768, whose size is taken for 32767
+-- no sample has a larger size, except −32768, whose size counts as 32767
 pub smax-covers : (s : List ℤ) (i : ℕ) → i < length s → min (natAbs (s at i)) 32767 ≤ P (peak s)
 smax-covers s i l = omega (zar, abs-clip (s at i), peak-covers s i l, peak-halves s)
 
@@ -38,7 +38,7 @@ pub scale-silent : (s : List ℤ) → peak s ≡ pos 0 → scalauto s ≡ pos 0
 unfolding scalauto
 scale-silent s e = rw e
 
--- all else the scale of its largest size
+-- all other samples the scale of their largest size
 pub scale-heard : (s : List ℤ) → ltZ (pos 0) (peak s) ≡ true → scalauto s ≡ sub (pos 4) (norm (peak s *ℤ pos 65536))
 unfolding scalauto
 scale-heard s h =
@@ -111,9 +111,9 @@ pub scaled-not : (scale : ℤ) (s : List ℤ) → ltZ (pos 0) scale ≡ false �
 unfolding scaled
 scaled-not scale s e = rw e
 
--- ---- back
+-- ---- the scaling back
 
--- at a scale of n + 1, the shift back loses nothing of a word that is not within half a step of 32768
+-- at a scale of n + 1, the shift back loses nothing of a word that is more than half a step below 32768
 word-exact : (x : ℤ) (n : ℕ) → SFits w16 x → n ≤ 3 → P x + 2 ^ n < 32768
     → let y = mult-r x (pos (2 ^ (14 - n))) in shl w16 y (pos (suc n)) ≡ y *ℤ pos (2 ^ suc n)
 word-exact x n f h b = shl-exact w16 y (suc n) (omega (zar, scale-is y (2 ^ suc n), above, below))
@@ -151,7 +151,7 @@ word-exact x n f h b = shl-exact w16 y (suc n) (omega (zar, scale-is y (2 ^ suc 
     below : N y * 2 ^ suc n ≤ 32768
     below = omega (arith, mul-le-mul-right {m = N y} {n = m} (2 ^ suc n) (omega (arith, least)), powers (14 - n) (suc n) 15 (omega arith))
 
--- so it loses nothing of a sample that was scaled, but of those from 32760 on at scale 4
+-- so the shift back loses nothing of a scaled sample, except of those from 32760 on at scale 4
 pub rescaled-exact : (s : List ℤ) → every word s ≡ true → ltZ (pos 0) (scalauto s) ≡ true → (i : ℕ) → i < length s
     → (scalauto s ≡ pos 4 → ltZ (s at i) (pos 32760) ≡ true)
     → let y = scaled (scalauto s) s at i in shl w16 y (scalauto s) ≡ y *ℤ pos (2 ^ natAbs (scalauto s))
@@ -178,7 +178,7 @@ rescaled-exact s w e i l h = ⊎-elim back (λ (g, _). absurd (omega (zar, e, g)
         rw (r .is, scaled-by (r .n) s (r .most), map-at (λ x. mult-r x (pos (2 ^ (14 - r .n)))) s i (pos 0) (pos 0) l)
         (word-exact x (r .n) f (r .most) (room r))
 
--- these come back as −32768: the one shift that loses
+-- these become −32768: the one shift that loses bits
 pub rescaled-at-four : (x : ℤ) → SFits w16 x → leZ (pos 32760) x ≡ true → shl w16 (mult-r x (pos 2048)) (pos 4) ≡ neg 32768
 unfolding shl keep modulo
 rescaled-at-four x f h =

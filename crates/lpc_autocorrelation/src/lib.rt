@@ -1,4 +1,4 @@
-// 4.2.4: scaling, the nine sums, and the scaling back. The sums never meet their limit (01, sum (b)): they
+// 4.2.4: scaling, the nine sums, and the scaling back. The sums never saturate (house rules, 'Six sums' (b)), so they
 // are plain additions.
 ghost use mathlib.Core.Path.{_≡_};
 ghost use mathlib.Core.Bool.{true};
@@ -9,7 +9,8 @@ ghost use Rattle.standard.specs.Lpc.{scalauto, scaled, rescaled, L-ACF};
 ghost use Rattle.op_sums.specs.Room.{at-most};
 ghost use Rattle.lpc_autocorrelation.specs.Blocks.{padded, upto};
 
-// The scaling factor: what brings the largest size to 11 bits; 0 of silence.
+// scalauto: the number of bits by which the samples are scaled down, so that the largest has at most 11 bits; 0 for
+// silence.
 pub fn scalauto(s: &[i16]) -> i16
     ensures { λ r. ⌜ r ≡ scalauto (now (s .entry)) ⌝ }
 {
@@ -21,7 +22,7 @@ pub fn scalauto(s: &[i16]) -> i16
     }
 }
 
-// Scaling, if the factor is above 0.
+// Scaling, if scalauto is above 0.
 pub fn scaled(scale: i16, s: &mut [i16])
     ensures { λ _. ⌜ now (s .exit) ≡ scaled scale (now (s .entry)) ⌝ }
 {
@@ -45,9 +46,8 @@ fn padded(s: &[i16]) -> [i16; 168]
     z
 }
 
-// The sum of the products of each sample and the one k places before it, in five blocks of 32, of which the
-// compiler makes vectors. A product with one of the zeros adds nothing: that this is L_ACF[k] is `upto-all`
-// (specs/Blocks).
+// The sum of the products of each sample and the one k samples before it, in five blocks of 32, for which the compiler
+// makes vector code. A product with one of the zeros adds nothing: that this is L_ACF[k] is `upto-all` (specs/Blocks).
 fn at_distance(k: usize, z: &[i16]) -> i32
     requires { ⌜ (length (now z) ≡ 168) × ((every (at-most 2048) (now z) ≡ true) × (k ≤ 8)) ⌝ }
     ensures { λ r. ⌜ r ≡ upto (now (z .entry)) k 160 ⌝ }
@@ -73,7 +73,7 @@ pub fn l_acf(s: &[i16]) -> [i32; 9]
     acf
 }
 
-// Scaling back. The shift keeps the low 16 bits: at a factor of 4 a sample of 32760 to 32767 comes back as -32768.
+// Scaling back. The shift keeps the low 16 bits: at scalauto 4 a sample from 32760 to 32767 becomes -32768.
 pub fn rescaled(scale: i16, s: &mut [i16])
     ensures { λ _. ⌜ now (s .exit) ≡ rescaled scale (now (s .entry)) ⌝ }
 {

@@ -37,10 +37,10 @@ pairs-at first second third fourth u i h l =
     (zip-at (λ r v. (r, v)) (tab f 0 8) u i [] (pos 0) ([], pos 0) (rw tab-length l) (omega arith)
     ∙ ap (λ (r : List ℤ). (r, u at i)) (tab-at-zero f 8 i [] l))
 
--- ---- section after section: sav stands after the place of a cell in a list of 161, and is handed on in another
+-- ---- section after section: sav stands in a list of 161 after the index for a cell, and the next sav in another such list
 
 module _ (first second third fourth u s : List ℤ) where
-  -- i sections have taken the samples s: di is what they hand on, sav stands in p, q is free, and kept has their new cells
+  -- i sections are done: di is what they give of the samples s, sav stands in p, q is free, and kept has their new cells
   pub record Done (i : ℕ) (di p q kept : List ℤ) : Type 0 where
     pub di-length : length di ≡ 160
     pub p-length : length p ≡ 161

@@ -1,4 +1,4 @@
--- 4.2.10: 001 takes each sample through all sections. Each section over all samples, one section after the other, comes to the same.
+-- 4.2.10: the standard takes each sample through all sections. All samples through one section, then the next, gives the same.
 use Prim.Native.Nat.{ℕ, zero, suc, _+_, _<_}
 use mathlib.Core.Path.{_≡_, refl, ap, _∙_}
 use mathlib.Core.Bool.{true}
@@ -16,13 +16,13 @@ use Rattle.standard.specs.Tables.{_at_}
 use Rattle.standard.specs.ShortTerm.{section, analysed}
 use Rattle.short_analysis.specs.Sections.{stage, stage-length}
 
--- one sample through some of the sections, from the di and sav that it has there: their cells, and the last di
+-- one sample through some of the sections, from its di and sav before them: their new cells, and the last di
 sampled : List ℤ → List ℤ × (ℤ × ℤ) → List ℤ × ℤ
 sampled u (rps, x) =
     let t = run section x (zip rps u) in
     (t .1, t .0 .0)
 
--- one section at one sample: its cell, and the di and sav that it hands on
+-- one section at one sample: its new cell, and its di and sav for the next section
 through : ℤ → ℤ × (ℤ × ℤ) → ℤ × (ℤ × ℤ)
 through u (rpi, x) =
     let t = section x (rpi, u) in
@@ -80,7 +80,8 @@ through-none ((r ∷ rs) ∷ rows) (d ∷ di) (s ∷ sav) a b =
 -- the sections from i on
 orders-from : (m n i : ℕ) (rows : List (List ℤ)) (us di sav : List ℤ) → every (sized m) rows ≡ true → i + length us ≡ m
     → length rows ≡ suc n → length di ≡ suc n → length sav ≡ suc n
-    → run sampled us (zip (map (drop i) rows) (zip di sav)) ≡ (let t = run (stage n) (di, sav) (zip (tab (column rows) i (length us)) us) in (t .1, t .0 .0))
+    → run sampled us (zip (map (drop i) rows) (zip di sav))
+    ≡ (let t = run (stage n) (di, sav) (zip (tab (column rows) i (length us)) us) in (t .1, t .0 .0))
 unfolding run zip zipWith tab
 orders-from m n i rows [] di sav e l a b c =
     let k : length (map (drop i) rows) ≡ length di = rw length-map (omega arith) in
@@ -89,13 +90,14 @@ orders-from m n i rows (u ∷ us) di sav e l a b c =
     let rs = column rows i in
     let k : length rs ≡ suc n = rw length-map a in
     let t = stage n (di, sav) (rs, u) in
-    let rest : ℤ × List (ℤ × ℤ) → List ℤ × List ℤ = λ q. let w = run sampled us (zip (map (drop (suc i)) rows) (q .1)) in (q .0 ∷ w .0, w .1) in
+    let rest : ℤ × List (ℤ × ℤ) → List ℤ × List ℤ =
+    λ q. let w = run sampled us (zip (map (drop (suc i)) rows) (q .1)) in (q .0 ∷ w .0, w .1) in
     let (f, g) = stage-length n di sav rs u k b c in
     first-section m i (omega arith) rows u us (zip di sav) e
     ∙ (ap rest (through-all n rs di sav u k b c)
     ∙ ap (λ (w : List ℤ × List ℤ). (t .1 ∷ w .0, w .1)) (orders-from m n (suc i) rows us (t .0 .0) (t .0 .1) e (omega arith) a f g))
 
--- a sample comes to the first section as di and as sav
+-- di and sav of the first section are both the sample
 doubled : (u : List ℤ) (rows : List (List ℤ)) (s : List ℤ) → run analysed u (zip rows s) ≡ run sampled u (zip rows (zip s s))
 unfolding run zip zipWith analysed sampled
 doubled u [] s = refl
@@ -104,7 +106,7 @@ doubled u (row ∷ rows) (x ∷ s) =
     let t = run section (x, x) (zip row u) in
     ap (λ (w : List ℤ × List ℤ). (w .0, t .0 .0 ∷ w .1)) (doubled (t .1) rows s)
 
--- the two orders come to the same, where there are as many coefficients at each of the n + 1 samples as there are cells
+-- the two orders give the same, if each of the n + 1 samples has as many coefficients as there are cells
 pub orders : (n : ℕ) (rows : List (List ℤ)) (u s : List ℤ) → every (sized (length u)) rows ≡ true → length rows ≡ suc n → length s ≡ suc n
     → run analysed u (zip rows s) ≡ (let t = run (stage n) (s, s) (zip (tab (column rows) 0 (length u)) u) in (t .1, t .0 .0))
 orders n rows u s e a b =

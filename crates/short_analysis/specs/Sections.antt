@@ -1,4 +1,4 @@
--- 4.2.10 the other way round: a section over all samples, then the next one. What a section's turn over all samples is, and its elements.
+-- 4.2.10, section by section: what one section gives over all samples, and the elements of it.
 use Prim.Native.Nat.{ℕ, suc, _<_}
 use mathlib.Core.Path.{_≡_, refl, ap, _∙_}
 use mathlib.Core.Bool.{Bool, true}
@@ -13,7 +13,7 @@ use Rattle.math_lists.specs.Parts.{lent-four, four}
 use Rattle.standard.specs.Arithmetic.{add, mult-r}
 use Rattle.standard.specs.Tables.{_at_, neg}
 
--- a coefficient that is not the least word
+-- a coefficient that is not -32768
 abbrev pub not-least : ℤ → Bool
 not-least = leZ (neg 32767)
 
@@ -33,7 +33,7 @@ further rp prev di = zipWith add di (zipWith mult-r rp prev)
 abbrev pub saved : List ℤ → List ℤ → List ℤ → List ℤ
 saved rp prev di = zipWith add prev (zipWith mult-r rp di)
 
--- a section over n + 1 samples: it is handed di and sav, and its own rp at each sample and its u; it hands on di and sav, and has a new u
+-- a section over n + 1 samples: from di and sav, its rp at each sample and its u, to the next di and sav and its new u
 unfoldable pub stage : ℕ → List ℤ × List ℤ → List ℤ × ℤ → (List ℤ × List ℤ) × ℤ
 stage n (di, sav) (rp, u) =
     let prev = u ∷ take n sav in
@@ -52,7 +52,7 @@ module _ (n : ℕ) (rp prev di : List ℤ) (r : length rp ≡ n) (p : length pre
       zip-at add di (zipWith mult-r rp prev) k (pos 0) (pos 0) (pos 0) (omega arith) (omega (arith, zip-length mult-r rp prev))
       ∙ ap (add (di at k)) (zip-at mult-r rp prev k (pos 0) (pos 0) (pos 0) (omega arith) (omega arith))
 
--- so a stage hands on as many as it is handed
+-- so a stage gives as many di and sav as it takes
 pub stage-length : (n : ℕ) (di sav rp : List ℤ) (u : ℤ) → length rp ≡ suc n → length di ≡ suc n → length sav ≡ suc n
     → let t = stage n (di, sav) (rp, u) in (length (t .0 .0) ≡ suc n) × (length (t .0 .1) ≡ suc n)
 unfolding stage

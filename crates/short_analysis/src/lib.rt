@@ -1,5 +1,6 @@
-// 4.2.10: short term analysis filtering. 001 takes each sample through the eight sections. A section is fed with
-// nothing that comes after it, so here each section takes all 160 samples, and the compiler can do several at once.
+// 4.2.10: short term analysis filtering. The standard takes each sample through the eight sections. A section needs
+// nothing from a later section. So here each section takes all 160 samples, and the compiler can compute several at
+// once.
 ghost use Prim.Native.Nat.{_<_};
 ghost use mathlib.Core.Path.{_≡_};
 ghost use mathlib.Core.Bool.{true};
@@ -13,7 +14,7 @@ ghost use Rattle.standard.specs.Tables.{_at_};
 ghost use Rattle.standard.specs.ShortTerm.{coefficients, analysed};
 ghost use Rattle.short_analysis.specs.Sections.{not-least, spread, own, further, saved, stage};
 
-// mult_r by a coefficient, which is not the least word: no limit can be met.
+// mult_r by a coefficient. The coefficient is not -32768, so mult_r cannot saturate.
 fn term(rp: i16, x: i16) -> i16
     requires { ⌜ not-least rp ≡ true ⌝ }
     ensures { λ r. ⌜ r ≡ mult-r rp x ⌝ }
@@ -49,7 +50,8 @@ fn own(i: usize, a: &[i16; 8], b: &[i16; 8], c: &[i16; 8], d: &[i16; 8], rp: &mu
     spread(a[i], b[i], c[i], d[i], rp);
 }
 
-// di and sav become those that a section hands on, from its coefficient and its cell at each of the 160 samples.
+// One section over the 160 samples: di and sav become those that it gives to the next section. rp has its coefficient
+// at each sample, prev its cell.
 fn section(rp: &[i16], prev: &[i16], di: &mut [i16], sav: &mut [i16])
     requires { ⌜ ((length (now rp) ≡ 160) × (length (now prev) ≡ 160))
         × ((length (now di) ≡ 160) × ((length (now sav) ≡ 160) × (every not-least (now rp) ≡ true))) ⌝ }
@@ -66,9 +68,10 @@ fn section(rp: &[i16], prev: &[i16], di: &mut [i16], sav: &mut [i16])
     }
 }
 
-// A section over the 160 samples, from its coefficient at each and its cell u. At a sample the cell holds the sav of
-// the sample before, and at the first u: so u is put before the 160 sav that come in, at p[0], and no sample is moved.
-// Those that go out stand in q in the same way, for the next section. It answers the new cell, the last sav in p.
+// A section over the 160 samples, from its coefficient at each sample and its cell u. At a sample the cell holds the
+// sav of the sample before; at the first sample it holds u. So u is stored before the 160 sav that come in, at p[0],
+// and no sample is moved. The sav that go out stand in q in the same way, for the next section. The result is the new
+// cell, the last sav in p.
 fn stage(rp: &[i16], u: i16, p: &mut [i16], di: &mut [i16], q: &mut [i16]) -> i16
     requires { ⌜ ((length (now rp) ≡ 160) × (length (now p) ≡ 161))
         × ((length (now di) ≡ 160) × ((length (now q) ≡ 161) × (every not-least (now rp) ≡ true))) ⌝ }
@@ -84,7 +87,7 @@ fn stage(rp: &[i16], u: i16, p: &mut [i16], di: &mut [i16], q: &mut [i16]) -> i1
     p[160]
 }
 
-// sav starts as di does, after room for a cell.
+// sav starts with the same samples as di. They stand from index 1 on; index 0 is for a cell.
 fn after_cell(s: &[i16]) -> [i16; 161]
     requires { ⌜ length (now s) ≡ 160 ⌝ }
     ensures { λ r. ⌜ r ≡ pos 0 ∷ now (s .entry) ⌝ }
@@ -96,8 +99,8 @@ fn after_cell(s: &[i16]) -> [i16; 161]
     p
 }
 
-// The 160 samples of s become those of d. u[0..7] are the cells; old and new the ratios of the frame before and of
-// this one. A turn of the loop is two sections: the first takes sav from p to q, the second back to p.
+// The 160 samples of s become those of d. u[0..7] are the cells, old and new the ratios of the frame before and of this
+// one. An iteration of the loop is two sections: the first takes sav from p to q, the second back to p.
 pub fn filtered(u: [i16; 8], old: [i16; 8], new: [i16; 8], s: &mut [i16]) -> [i16; 8]
     requires { ⌜ length (now s) ≡ 160 ⌝ }
     ensures u { λ r. ⌜ r ≡ run analysed u (zip (coefficients old new) (now (s .entry))) .0 ⌝ }

@@ -1,4 +1,4 @@
--- The products at a distance, a block of 32 a turn: the sum so far is that of the first 32 * j.
+-- Iteration j adds a block of 32 products: before it the sum is that of the first 32 * j (`parts-next`).
 use Prim.Native.Nat.{ℕ, _+_, _-_, _*_, _≤_, _<_}
 use mathlib.Core.Path.{_≡_, refl, sym, ap, ap₂, _∙_}
 use mathlib.Core.Bool.{true}
@@ -32,7 +32,7 @@ loop-holds c = (omega arith, refl)
 part : (z : List ℤ) (a b : ℕ) → b ≡ 32 + a → take (b - a) (drop a z) ≡ take 32 (drop a z)
 part z a b e = let f : b - a ≡ 32 = omega arith in rw f
 
--- a turn: the two parts, their room, and what they add
+-- an iteration: the two parts, that their sum fits, and what they add
 module _ (c : tie.After-l-sum-arg2 Inv-loop μ-loop) where
   abbrev t : tie.At-loop Inv-loop μ-loop
   t = c .before .before .before

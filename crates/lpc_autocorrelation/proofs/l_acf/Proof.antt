@@ -1,4 +1,4 @@
--- The nine sums, one a turn, each over all 160 samples with zeros before them.
+-- Iteration k stores the sum at distance k. With eight zeros before the samples each sum goes over all 160 (`upto-all`).
 use Prim.Native.Nat.{ℕ, _-_, _≤_}
 use mathlib.Core.Path.{_≡_, refl, sym, ap, _∙_}
 use mathlib.Core.List.{List}

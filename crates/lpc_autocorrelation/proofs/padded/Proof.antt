@@ -1,4 +1,4 @@
--- Eight zeros, and the samples pasted behind them one a turn.
+-- The list starts as 168 zeros. Iteration k stores sample k at index 8 + k.
 use Prim.Native.Nat.{_+_, _-_, _≤_}
 use mathlib.Core.Path.{_≡_, refl, sym, ap, _∙_}
 use mathlib.Core.List.{List, _++_, append-nil}

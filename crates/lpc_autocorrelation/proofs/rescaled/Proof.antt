@@ -1,4 +1,4 @@
--- Each sample shifted back, where the factor is above 0.
+-- Iteration k shifts sample k back. If scalauto is not above 0, nothing changes, as the definition says.
 use Prim.Native.Nat.{_-_, _≤_}
 use mathlib.Core.Path.{_≡_, refl, sym, ap, _∙_}
 use mathlib.Core.List.{map}

@@ -1,4 +1,4 @@
--- The factor by its two cases: silence, or 4 less the norm of the largest size.
+-- Two cases: silence gives 0; otherwise the largest size is above 0, and 4 less its norm is the scale.
 use Prim.Native.Nat.{_*_, _%_}
 use mathlib.Core.Path.{_≡_, sym, ap, _∙_}
 use mathlib.Core.Bool.{true}
@@ -30,7 +30,7 @@ module _ (c : tie.After-peak) where
       rw (res (c .peak), c .peak .ensures)
       (up-bits w32 smax 16 (wide smax-fits tt) ∙ peak-up (c .before .args .s .now))
 
--- where the test finds sound it is above 0
+-- where the test does not find silence it is above 0
 above : (c : tie.Else1) → ltZ (pos 0) (smax (c .before)) ≡ true
 above c =
     let i = peak-halves (c .before .before .args .s .now) in
@@ -51,7 +51,8 @@ returns-2 c =
     let n = c .before in
     let e = n .before in
     let norm-is = rw (smax-is (e .before)) at (n .norm .ensures) in
-    res (c .sub) ∙ (c .sub .ensures ∙ (ap (sub (pos 4)) (res (n .norm) ∙ norm-is) ∙ sym (scale-heard (e .before .before .args .s .now) (above e))))
+    let heard = scale-heard (e .before .before .args .s .now) (above e) in
+    res (c .sub) ∙ (c .sub .ensures ∙ (ap (sub (pos 4)) (res (n .norm) ∙ norm-is) ∙ sym heard))
 
 pub scalauto-spec : {M : Type 1} → statement M
 scalauto-spec =

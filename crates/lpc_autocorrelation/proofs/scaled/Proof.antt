@@ -1,4 +1,4 @@
--- Each sample times the factor, where it is above 0.
+-- Iteration k multiplies sample k by the factor. If scalauto is not above 0, nothing changes, as the definition says.
 use Prim.Native.Nat.{_-_, _≤_}
 use mathlib.Core.Path.{_≡_, refl, sym, ap, _∙_}
 use mathlib.Core.List.{map}
@@ -18,7 +18,8 @@ use Rattle.lpc_autocorrelation.proofs.scaled.Statement.{statement}
 use Rattle.lpc_autocorrelation.proofs.scaled.Tie as tie
 
 abbrev Inv-loop : tie.InvT-loop
-Inv-loop scale s₀ factor k₀ k-end s k = (k ≤ length s₀) × (length s ≡ length s₀) × (s ≡ filled k (map (λ x. mult-r x (toZ w16 factor)) s₀) s₀)
+Inv-loop scale s₀ factor k₀ k-end s k =
+    (k ≤ length s₀) × (length s ≡ length s₀) × (s ≡ filled k (map (λ x. mult-r x (toZ w16 factor)) s₀) s₀)
 
 abbrev μ-loop : tie.MeasureT-loop
 μ-loop scale s₀ factor k₀ k-end s k = length s₀ - k

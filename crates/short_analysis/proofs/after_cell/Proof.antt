@@ -1,4 +1,4 @@
--- Place 0 is room for a cell, and the loop pastes the samples after it, from the first on.
+-- Index 0 is for a cell. Iteration k stores sample k at index 1 + k.
 use Prim.Native.Nat.{_-_, _≤_}
 use mathlib.Core.Path.{_≡_, refl}
 use mathlib.Core.List.{append-nil}

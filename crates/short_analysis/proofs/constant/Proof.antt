@@ -1,4 +1,4 @@
--- One coefficient written at each place of a part.
+-- Iteration k stores the coefficient at index k, so the part ends as so many copies of it.
 use Prim.Native.Nat.{_-_, _≤_}
 use mathlib.Core.Path.{_≡_, refl, sym}
 use native.Mathlib.Omega.{arith}
@@ -14,7 +14,8 @@ use Rattle.short_analysis.proofs.constant.Statement.{statement}
 use Rattle.short_analysis.proofs.constant.Tie as tie
 
 abbrev Inv-loop : tie.InvT-loop
-Inv-loop x part₀ k₀ k-end part k = (k ≤ k-end) × (length part ≡ length part₀) × (part ≡ filled k (replicate (length part₀) (toZ w16 x)) part₀)
+Inv-loop x part₀ k₀ k-end part k =
+    (k ≤ k-end) × (length part ≡ length part₀) × (part ≡ filled k (replicate (length part₀) (toZ w16 x)) part₀)
 
 abbrev μ-loop : tie.MeasureT-loop
 μ-loop x part₀ k₀ k-end part k = k-end - k

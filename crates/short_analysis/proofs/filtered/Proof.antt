@@ -1,4 +1,4 @@
--- A turn is two sections, and the second is as the first with the two lists exchanged: one law of the next section serves both.
+-- An iteration is two sections. The second is as the first with the two lists exchanged: one law of the next section serves both.
 use Prim.Native.Nat.{ℕ, _+_, _*_, _-_, _≤_, _<_}
 use mathlib.Core.Path.{_≡_, refl, sym, ap, _∙_}
 use mathlib.Core.Bool.{true}
@@ -60,7 +60,7 @@ module _ (r : tie.After-coefficients4 Inv-loop μ-loop) where
   eight : (length cells ≡ 8) × (length first ≡ 8) × (length second ≡ 8) × (length third ≡ 8) × (length fourth ≡ 8)
   eight = (search needs, search needs, search needs, search needs, search needs)
 
-  -- no coefficient is the least word
+  -- no coefficient is -32768
   own-above : (i : ℕ) → i < 8 → every not-least (own first second third fourth i) ≡ true
   own-above i h =
       spread-every not-least (first at i) (second at i) (third at i) (fourth at i)
@@ -76,7 +76,7 @@ module _ (r : tie.After-coefficients4 Inv-loop μ-loop) where
   own-length : (i : ℕ) {rp : List ℤ} → rp ≡ own first second third fourth i → length rp ≡ 160
   own-length i e = ap length e ∙ spread-length (first at i) (second at i) (third at i) (fourth at i)
 
-  -- so the next section may be handed its own
+  -- so the next call has what it asks for
   asked : {i : ℕ} {rp di p q kept : List ℤ} → i < 8 → rp ≡ own first second third fourth i → Past i di p q kept
       → ((length rp ≡ 160) × (length p ≡ 161)) × ((length di ≡ 160) × ((length q ≡ 161) × (every not-least rp ≡ true)))
   asked {i} l e d = ((own-length i e, d .p-length), (d .di-length, (d .q-length, ap (every not-least) e ∙ own-above i l)))
@@ -100,7 +100,7 @@ loop-holds c =
       },
     )
 
--- ---- a turn: section i, and then section k
+-- ---- an iteration: section i, and then section k
 
 module _ (b : tie.At-loop Inv-loop μ-loop) where
   abbrev before-loop : tie.After-coefficients4 Inv-loop μ-loop
@@ -204,7 +204,7 @@ stage-requires-2 c κs =
     let t = turn-one (one e) in
     asked (known t) (k-below t) (e .own2 .ensures) (done-one (one e))
 
--- so one turn of four is done
+-- so one iteration of four is done
 module _ (c : tie.After-p4 Inv-loop μ-loop) where
   abbrev two : tie.After-stage2 Inv-loop μ-loop
   two = c .before .before .before
@@ -251,7 +251,7 @@ returns c =
     let (f, g) = along-end (stage 159) _ _ (d .along) (omega (arith, m)) (omega (arith, d .kept-length)) in
     rw w (g, ap (λ (t : List ℤ × List ℤ). t .0) f)
 
--- a word's place among eight does not wrap
+-- the address of a word among eight does not wrap
 place-fits : {i : ℕ} → i < 8 → Fits w64 (i * 2)
 place-fits {i} h = scaled-fits i 8 2 h (lit< tt)
 

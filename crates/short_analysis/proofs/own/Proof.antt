@@ -1,4 +1,4 @@
--- The four words that are read and spread are section i's.
+-- The four words read at index i are section i's coefficients of the four stretches.
 use mathlib.Core.Path.{_≡_}
 use mathlib.Core.List.{List}
 use borrow.Author.Needs.{needs, sfits-of}

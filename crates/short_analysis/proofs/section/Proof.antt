@@ -1,4 +1,4 @@
--- A section over all samples: at each turn one di and one sav, as the definition has them at that place.
+-- Iteration k stores one di and one sav: the elements at k of what the definition gives over all samples.
 use Prim.Native.Nat.{_-_, _≤_}
 use mathlib.Core.Path.{_≡_, refl, sym, ap₂, _∙_}
 use native.Mathlib.Omega.{arith}
@@ -19,7 +19,8 @@ use Rattle.short_analysis.proofs.section.Tie as tie
 
 abbrev Inv-loop : tie.InvT-loop
 Inv-loop rp prev di₀ sav₀ k₀ di sav k =
-    (k ≤ 160) × (length di ≡ 160) × (length sav ≡ 160) × (di ≡ filled k (further rp prev di₀) di₀) × (sav ≡ filled k (saved rp prev di₀) sav₀)
+    (k ≤ 160) × (length di ≡ 160) × (length sav ≡ 160)
+    × (di ≡ filled k (further rp prev di₀) di₀) × (sav ≡ filled k (saved rp prev di₀) sav₀)
 
 abbrev μ-loop : tie.MeasureT-loop
 μ-loop rp prev di₀ sav₀ k₀ di sav k = 160 - k
@@ -27,7 +28,7 @@ abbrev μ-loop : tie.MeasureT-loop
 loop-holds : tie.Need-loop-holds Inv-loop μ-loop
 loop-holds c = (search needs, search needs, search needs, refl, refl)
 
--- what is read at a turn: the coefficient and the cell,
+-- what is read in an iteration: the coefficient and the cell,
 r-is : (c : tie.After-r Inv-loop μ-loop) → let b = c .before .before in
     mem w16 (b .before .args .rp .now at b .loop .k) ≡ b .before .args .rp .now at b .loop .k
 r-is c = back (sfits-of (c .r .given))
@@ -36,7 +37,7 @@ p-is : (c : tie.After-p Inv-loop μ-loop) → let b = c .before .before .before 
     mem w16 (b .before .args .prev .now at b .loop .k) ≡ b .before .args .prev .now at b .loop .k
 p-is c = back (sfits-of (c .p .given))
 
--- and di, which at this place is still the one that was handed in
+-- and di, which at this index is still the old one
 d-is : (c : tie.After-d Inv-loop μ-loop) → let b = c .before .before .before .before in
     mem w16 (b .loop .di at b .loop .k) ≡ b .before .args .di .now at b .loop .k
 d-is c =
@@ -85,7 +86,8 @@ loop-again c =
       simp length-set (b .loop .inv .2),
       fill-next (further rp prev di) di i (b .loop .inv .3) (pos 0) (omega (arith, further-length 160 rp prev di lr lp ld)) (omega arith)
           (res (a .add) ∙ (out ∙ sym (further-at 160 rp prev di lr lp ld i (omega arith)))),
-      fill-next (saved rp prev di) (s .args .sav .now) i (b .loop .inv .4) (pos 0) (omega (arith, further-length 160 rp di prev lr ld lp)) (omega arith)
+      fill-next (saved rp prev di) (s .args .sav .now) i (b .loop .inv .4) (pos 0)
+          (omega (arith, further-length 160 rp di prev lr ld lp)) (omega arith)
           (res (c .add2) ∙ (kept ∙ sym (further-at 160 rp di prev lr ld lp i (omega arith)))),
     )
 
@@ -101,7 +103,8 @@ returns c =
     let ld : length di ≡ 160 = s .pre .1 .0 in
     let ls : length (s .args .sav .now) ≡ 160 = s .pre .1 .1 .0 in (
       fill-end (further rp prev di) di (b .loop .k) (b .loop .inv .3) (omega (arith, further-length 160 rp prev di lr lp ld)) (omega arith),
-      fill-end (saved rp prev di) (s .args .sav .now) (b .loop .k) (b .loop .inv .4) (omega (arith, further-length 160 rp di prev lr ld lp)) (omega arith),
+      fill-end (saved rp prev di) (s .args .sav .now) (b .loop .k) (b .loop .inv .4)
+          (omega (arith, further-length 160 rp di prev lr ld lp)) (omega arith),
     )
 
 pub section-spec : {M : Type 1} → statement M

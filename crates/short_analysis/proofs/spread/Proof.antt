@@ -1,4 +1,4 @@
--- The four stretches filled one after the other.
+-- Four parts of the buffer are filled, one for each stretch. Joined they are the 160 coefficients.
 use Prim.Native.Nat.{ℕ}
 use mathlib.Core.Path.{_≡_, ap₂, _∙_}
 use mathlib.Core.List.{List}

@@ -1,4 +1,4 @@
--- With the cell put first, the front of p is what the section's cell holds at each sample, and the last place its new cell.
+-- With the cell stored first, the front of p has what the section's cell holds at each sample, and the last index its new cell.
 use mathlib.Core.Path.{_≡_, ap, _∙_}
 use mathlib.Core.List.{List, [], _∷_, append-nil}
 use native.Mathlib.Omega.{arith}
@@ -43,7 +43,7 @@ module _ (e : tie.After-section) where
 slice-copy-out-result : tie.Need-slice-copy-out-result
 slice-copy-out-result c = let l = led-length (start (c .before .before)) in search needs
 
--- where all but the first of 161 places were lent, the first stays
+-- only the part of q after its first element is passed on, so the first element stays
 after-first : (q y : List ℤ) → length q ≡ 161 → put 1 160 q y ≡ q at 0 ∷ y
 after-first [] y h = absurd (omega arith)
 after-first (x ∷ q) y h = rw (drop-of-length-le q {i = 160} (omega arith), append-nil y)

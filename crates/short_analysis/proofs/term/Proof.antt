@@ -1,4 +1,4 @@
--- The rounded product is mult_r, since the coefficient is not the least word.
+-- The rounded product is mult_r, since the coefficient is not -32768.
 use Prim.Native.Nat.{ℕ, _+_}
 use mathlib.Core.Path.{_≡_, sym, _∙_}
 use mathlib.Core.Bool.{true}
