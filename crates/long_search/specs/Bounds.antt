@@ -1,4 +1,4 @@
--- 01, sums (c) and (d): d is scaled to within 512, the sum at each lag and the power are within 1342177280.
+-- House rules, 'Six sums' (c) and (d): the scaled d is at most 512 in size, the sum at each lag and the power at most 1342177280.
 use Prim.Native.Nat.{ℕ, _+_, _*_, _-_, _^_, _<_, _≤_}
 use mathlib.Core.Path.{_≡_, refl, sym, ap, _∙_}
 use mathlib.Core.Bool.{true, false, cond}
@@ -40,7 +40,7 @@ six-less n =
     (λ h. omega (zar, minus-clip w16 (pos 6) (pos n), minus-is (pos 6) (pos n), apart (sub (pos 6) (pos n))))
 
 module _ (d : List ℤ) where
-  -- where norm finds it above 0, if dmax is not 0
+  -- if dmax is not 0, norm is applied to a number above 0
   pub dmax-above : is-zero (peak d) ≡ false → ltZ (pos 0) (up w32 (peak d) 16) ≡ true
   dmax-above e =
       let m : natAbs (peak d) ≡ 0 → ⊥ = eqb-false (natAbs (peak d)) 0 e in
@@ -63,7 +63,7 @@ module _ (d : List ℤ) where
       let l : natAbs z ≡ P (peak d) * 65536 = omega (arith, peak-halves d, abs-is z) in
       record { count = n .shifts; is = rw (e, peak-up d) (n .is); stays = omega (arith, rw l at (n .stays)) }
 
-  -- scal d is a count from 0 to 6, by which dmax comes below 512
+  -- scal d is a number from 0 to 6, and shifted right by it dmax is below 512
   record Scaling : Type 0 where
     count : ℕ
     is : scal d ≡ pos count
@@ -100,7 +100,7 @@ module _ (d : List ℤ) where
       let e : (P z ≡ 6 - n) × (N z ≡ 0) = omega (arith, minus-clip w16 (pos 6) (pos n), minus-is (pos 6) (pos n), apart z) in
       rw (scaling .is) (within-yes (pos 0) (pos 6) (pos n) (omega zar) (omega zar), within-yes (pos 0) (pos 6) z (omega zar) (omega zar))
 
-  -- and by scal d each word of d comes within 512
+  -- and shifted right by scal d each word of d is at most 512 in size
   pub scal-small : (k : ℕ) → k < length d → SFits w16 (d at k) → natAbs (shr w16 (d at k) (scal d)) ≤ 512
   scal-small k h f =
       let x = d at k in
@@ -116,12 +116,13 @@ module _ (d : List ℤ) where
 back-word : (lag : ℕ) (dp : List ℤ) (i : ℕ) → every word dp ≡ true → i < length (back lag dp) → SFits w16 (back lag dp at i)
 unfolding back
 back-word lag dp i ws h =
-    word-is (back lag dp at i) (every-at word (back lag dp) i (pos 0) (every-take word 40 (drop (120 - lag) dp) (every-drop word (120 - lag) dp ws)) h)
+    let words = every-take word 40 (drop (120 - lag) dp) (every-drop word (120 - lag) dp ws) in
+    word-is (back lag dp at i) (every-at word (back lag dp) i (pos 0) words h)
 
 -- for all words d and dp of the lengths that 4.2.11 has, and each lag
 module _ (d dp : List ℤ) (ds : every word d ≡ true) (dps : every word dp ≡ true) (m : length d ≡ 40) (n : length dp ≡ 120)
     (lag : ℕ) (l : Lag lag) where
-  -- d, scaled, is within 512
+  -- d, scaled, is at most 512 in size
   scaled-small : every (at-most 512) (scaled d) ≡ true
   scaled-small = every-places (at-most 512) (scaled d) (pos 0)
       (λ i h. let g : i < length d = rw length-map at h in
@@ -146,11 +147,11 @@ module _ (d dp : List ℤ) (ds : every word d ≡ true) (dps : every word dp ≡
   fits : length (scaled d) * 16777216 < 1073741824
   fits = omega (arith, scaled-length)
 
-  -- the sum at each lag is within 1342177280
+  -- the sum at each lag is at most 1342177280 in size
   pub correlation-in : natAbs (correlations d dp at (lag - 40)) ≤ 1342177280
   correlation-in = rw entry (omega (arith, scaled-length, L-sum-in (scaled d) (back lag dp) 16777216 same each fits))
 
-  -- and is the plain sum: no step meets its limit
+  -- and is the plain sum: no step saturates
   pub correlation-steps : correlations d dp at (lag - 40) ≡ foldl _+ℤ_ (pos 0) (zipWith L-mult (scaled d) (back lag dp))
   correlation-steps = entry ∙ L-sum-steps (scaled d) (back lag dp) 16777216 same each fits
 
@@ -198,7 +199,7 @@ module _ (dp : List ℤ) (dps : every word dp ≡ true) (n : length dp ≡ 120) 
       (rw e (omega (zar, add-is s s, squares-above shifted)))
       (omega (zar, shifted-length, abs-is (L-sum (pos 0) shifted shifted)))
 
-  -- and is the plain sum: no step meets its limit
+  -- and is the plain sum: no step saturates
   pub power-steps : L-power lag dp ≡ foldl _+ℤ_ (pos 0) (zipWith L-mult shifted shifted)
   unfolding L-power L-squares
   power-steps = L-sum-steps shifted shifted 16777216 refl square-small room
@@ -207,7 +208,8 @@ module _ (dp : List ℤ) (dps : every word dp ≡ true) (n : length dp ≡ 120) 
 
 -- where 0 < L_max < L_power, the shifts that normalise both lose nothing
 pub gain-exact : (L-max L-pow : ℤ) → ltZ (pos 0) L-max ≡ true → ltZ L-max L-pow ≡ true → SFits w32 L-pow
-    → (n : Normal L-pow) × (shl w32 L-max (norm L-pow) ≡ L-max *ℤ pos (2 ^ n .shifts)) × (shl w32 L-pow (norm L-pow) ≡ L-pow *ℤ pos (2 ^ n .shifts))
+    → (n : Normal L-pow)
+    × (shl w32 L-max (norm L-pow) ≡ L-max *ℤ pos (2 ^ n .shifts)) × (shl w32 L-pow (norm L-pow) ≡ L-pow *ℤ pos (2 ^ n .shifts))
 gain-exact L-max L-pow g h f =
     let n = normal L-pow (omega (zar, apart L-max, know f)) f in
     (n, norm-exact n L-max (omega (zar, know f, apart L-max, abs-is L-max)), norm-exact n L-pow (omega arith))

@@ -1,5 +1,5 @@
-// 4.2.11: the lag and its gain code. The 81 sums and the power never meet their limit (01, sums (c) and (d)): they are
-// plain additions.
+// 4.2.11: the lag and its gain code. The 81 sums and the power never saturate (house rules, 'Six sums' (c) and (d)), so
+// they are plain additions.
 use op_sums::Found;
 ghost use mathlib.Core.Path.{_≡_};
 ghost use mathlib.Core.Bool.{true};
@@ -8,17 +8,17 @@ ghost use Prim.Native.Nat.{_+_, _≤_};
 ghost use lib.IntN.{pos};
 ghost use lib.ListN.{length};
 ghost use lib.Signed.{ltZ};
-ghost use mir.Syntax.{w16, w32};
+ghost use mir.Syntax.{w16};
 ghost use Rattle.math_lists.specs.Best.{best};
 ghost use Rattle.math_lists.specs.Every.{every};
-ghost use Rattle.standard.specs.Arithmetic.{shr, sub};
+ghost use Rattle.standard.specs.Arithmetic.{shr};
 ghost use Rattle.standard.specs.LongTerm as standard;
 ghost use Rattle.law_arithmetic.specs.Within.{word};
 ghost use Rattle.op_sums.specs.Room.{at-most};
-ghost use Rattle.long_search.specs.Search.{correlated, lasts};
+ghost use Rattle.long_search.specs.Search.{correlated, lasts, gain-code};
 
-// What the search found: the lag, its sum before the rescaling, and whether any sum was above 0. Without one
-// the lag is only where the search stood.
+// What the search found: the lag, its sum before the rescaling, and whether any sum was above 0. If none was, the lag
+// is 40, where the search starts.
 pub struct Search {
     pub lag: usize,
     pub sum: i32,
@@ -57,8 +57,8 @@ fn weighed(scal: i16, d: &[i16]) -> [i16; 40]
     wt
 }
 
-// Each of a slice is a word, which the search has to know before it adds up what two calls gave. To read them
-// is enough, and nothing is left of it once it is compiled.
+// Each element of a slice is a word. The search has to know this before it adds the results of two calls. Reading the
+// elements proves it, and the compiler removes the loop.
 fn each_a_word(s: &[i16])
     ensures { λ _. ⌜ every word (now (s .entry)) ≡ true ⌝ }
 {
@@ -67,8 +67,8 @@ fn each_a_word(s: &[i16])
     }
 }
 
-// The last 8 of the 40 products, at each place of dp that a lag starts from. The compiler makes vectors of 8
-// products and of 32, and not of 40. That 32 and 8 are the 40 is `lag-split` (specs/Search).
+// The sum of the last 8 of the 40 products, at each index of dp where a lag starts. The compiler makes vector code for
+// 8 products and for 32, but not for 40. That 32 and 8 are the 40 is `lag-split` (specs/Search).
 fn lasts(wt: &[i16], dp: &[i16]) -> [i32; 81]
     requires { ⌜ (length (now wt) ≡ 40) × ((length (now dp) ≡ 120) × (every (at-most 512) (now wt) ≡ true)) ⌝ }
     ensures { λ r. ⌜ r ≡ lasts (now (wt .entry)) (now (dp .entry)) ⌝ }
@@ -127,7 +127,7 @@ fn level(r: i16, s: i16) -> usize
     }
 }
 
-// bc of L_max and L_power. Both are normalised by the power's norm; the smaller one, L_max, loses nothing either.
+// bc from L_max and L_power. Both are normalised by the norm of L_power. L_max is smaller, so it loses nothing either.
 fn gain(lmax: i32, lpower: i32) -> usize
     ensures { λ r. ⌜ r ≡ standard.bc lmax lpower ⌝ }
 {
@@ -149,8 +149,9 @@ pub fn lag_and_gain(d: &[i16], dp: &[i16]) -> Parameters
     requires { ⌜ (length (now d) ≡ 40) × (length (now dp) ≡ 120) ⌝ }
     ensures lag { λ r. ⌜ r .search .lag ≡ standard.Nc (standard.lag-search (now (d .entry)) (now (dp .entry))) ⌝ }
     ensures sum { λ r. ⌜ r .search .sum ≡ standard.lag-search (now (d .entry)) (now (dp .entry)) .sum ⌝ }
-    ensures positive { λ r. ⌜ r .search .positive ≡ ltZ (pos 0) (standard.lag-search (now (d .entry)) (now (dp .entry)) .sum) ⌝ }
-    ensures bc { λ r. ⌜ r .bc ≡ standard.bc (shr w32 (standard.lag-search (now (d .entry)) (now (dp .entry)) .sum) (sub (pos 6) (standard.scal (now (d .entry))))) (standard.L-power (standard.Nc (standard.lag-search (now (d .entry)) (now (dp .entry)))) (now (dp .entry))) ⌝ }
+    ensures positive { λ r. ⌜ r .search .positive
+        ≡ ltZ (pos 0) (standard.lag-search (now (d .entry)) (now (dp .entry)) .sum) ⌝ }
+    ensures bc { λ r. ⌜ r .bc ≡ gain-code (now (d .entry)) (now (dp .entry)) ⌝ }
 {
     let n = scal(d);
     let wt = weighed(n, d);

@@ -1,4 +1,4 @@
--- What is read of a slice of words is a word, so each of them is.
+-- An element that is read is a word, by its type. The loop reads all, so each of them is.
 use Prim.Native.Nat.{ℕ, _-_, _≤_, _<_}
 use mathlib.Core.Logic.{⊎-elim}
 use native.Mathlib.Nat.{eq-or-lt-of-le, le-of-suc-le-suc}

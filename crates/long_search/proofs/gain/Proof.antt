@@ -1,4 +1,4 @@
--- The gain code by the three ways of 4.2.11: no positive sum, a power that is reached, a level.
+-- The three cases of 4.2.11: no positive sum, a power that L_max reaches, and a level. In the last both tests say that norm may be called.
 use mathlib.Core.Path.{_≡_, ap, ap₂, _∙_}
 use mathlib.Core.Bool.{true, false}
 use lib.IntN.{pos}

@@ -1,4 +1,4 @@
--- What each call gives, joined: scaling, search, rescaling, power and gain.
+-- What each call gives, put into the next: scaling, search, rescaling, power and gain.
 use Prim.Native.Nat.{ℕ, _+_}
 use mathlib.Core.Path.{_≡_, ap, ap₂, _∙_}
 use mathlib.Core.List.{List}
@@ -19,6 +19,10 @@ use Rattle.law_lengths.specs.Subframes.{Lag, found-lag}
 use Rattle.long_search.specs.Search.{scaled, correlated}
 use Rattle.long_search.proofs.lag_and_gain.Statement.{statement}
 use Rattle.long_search.proofs.lag_and_gain.Tie as tie
+
+-- the start, from after the search
+abbrev start : tie.After-lag-search → tie.Start
+start c = c .before .before .before .before .before
 
 -- the scaling
 scal-is : (c : tie.After-scal) → mem w16 (c .scal .result) ≡ scal (c .before .args .d .now)
@@ -45,12 +49,12 @@ found-is c =
     let w = c .before .before .before in
     ap (λ (wt : List ℤ). best (correlated wt (w .before .before .args .dp .now))) (wt-is w)
 
-lag-is : (c : tie.After-lag-search) → let s = c .before .before .before .before .before in
+lag-is : (c : tie.After-lag-search) → let s = start c in
     c .lag-search .result .lag ≡ Nc (lag-search (s .args .d .now) (s .args .dp .now))
 unfolding Nc
 lag-is c = c .lag-search .ensures .0 ∙ ap (λ (b : Best). 40 + b .at) (found-is c)
 
-sum-is : (c : tie.After-lag-search) → let s = c .before .before .before .before .before in
+sum-is : (c : tie.After-lag-search) → let s = start c in
     c .lag-search .result .sum ≡ lag-search (s .args .d .now) (s .args .dp .now) .sum
 sum-is c = c .lag-search .ensures .1 .0 ∙ ap (λ (b : Best). b .sum) (found-is c)
 
@@ -60,7 +64,7 @@ sum-fits c = search needs
 power-requires : tie.Need-power-requires
 power-requires c κs =
     let l = c .before .before .before in
-    let s = l .before .before .before .before .before in
+    let s = start l in
     let h : Lag (Nc (lag-search (s .args .d .now) (s .args .dp .now))) = found-lag _ _ in
     (s .pre .1, (omega (arith, lag-is l, h .least), omega (arith, lag-is l, h .most)))
 
@@ -70,7 +74,7 @@ returns c =
     let m = p .before in
     let r = m .before .before in
     let l = r .before in
-    let s = l .before .before .before .before .before in
+    let s = start l in
     let e = res (r .sub) ∙ (r .sub .ensures ∙ ap (sub (pos 6)) (scal-is (l .before .before .before .before))) in
     let x = res (m .l-shr) ∙ (m .l-shr .ensures ∙ ap₂ (shr w32) (back (sum-fits l) ∙ sum-is l) e) in
     let y = res (p .power) ∙ (p .power .ensures ∙ ap (λ (lag : ℕ). L-power lag (s .args .dp .now)) (lag-is l)) in (

@@ -1,4 +1,4 @@
--- The search: at each turn the first 32 products and the last 8 are the sum at the lag, and the better of two is kept.
+-- In iteration i the first 32 products and the last 8 are together the sum at lag 40 + i, and the better of two is kept.
 use Prim.Native.Nat.{ℕ, _+_, _-_, _≤_, _<_}
 use mathlib.Core.Path.{_≡_, sym, ap, ap₂, _∙_}
 use mathlib.Core.List.{List}
@@ -33,7 +33,7 @@ abbrev μ-loop : tie.MeasureT-loop
 loop-holds : tie.Need-loop-holds Inv-loop μ-loop
 loop-holds c = (omega arith, sym best-start)
 
--- the start, from a turn
+-- the start, from the loop
 abbrev start : tie.At-loop Inv-loop μ-loop → tie.Start Inv-loop μ-loop
 start t = t .before .before .before
 
@@ -55,7 +55,7 @@ l-sum-requires c κs =
     let small = every-take (at-most 512) 32 wt (s .pre .1 .1) in
     rw (part dp i h) (part-room (take 32 wt) ds (l ∙ sym n) (omega arith) small)
 
--- a turn: what was read and what the call gave
+-- an iteration: what was read and what the call gave
 module _ (c : tie.After-better-arg Inv-loop μ-loop) where
   abbrev t : tie.At-loop Inv-loop μ-loop
   t = let read : tie.In-loop Inv-loop μ-loop = c .before .before .before .before in read .before
@@ -84,7 +84,9 @@ module _ (c : tie.After-better-arg Inv-loop μ-loop) where
       ap₂ _+ℤ_ (res (c .before .l-sum) ∙ e) (back f ∙ last-is)
 
   sum-fits : SFits w32 (mem w32 (c .before .l-sum .result) +ℤ mem w32 (t .before .lasts .result at (80 - i)))
-  sum-fits = rw sum-is (lag-fits wt dp (80 - i) (s .pre .0) (s .pre .1 .0) (s .pre .1 .1) (t .before .before .each-a-word .ensures) (omega arith))
+  sum-fits =
+      let words = t .before .before .each-a-word .ensures in
+      rw sum-is (lag-fits wt dp (80 - i) (s .pre .0) (s .pre .1 .0) (s .pre .1 .1) words (omega arith))
 
   turn : mem w32 (mem w32 (c .before .l-sum .result) +ℤ mem w32 (t .before .lasts .result at (80 - i))) ≡ correlated wt dp at i
   turn =

@@ -1,4 +1,4 @@
--- The last 8 products at each of the 81 places, one a turn.
+-- Iteration j stores the sum of the last 8 products for the 40 that start at index j.
 use Prim.Native.Nat.{ℕ, _+_, _-_, _≤_, _<_}
 use mathlib.Core.Path.{_≡_, refl, sym, ap, _∙_}
 use mathlib.Core.List.{List}

@@ -1,4 +1,4 @@
--- The power at the lag is the sum of squares of the part that the lag reaches.
+-- The power at the lag is the sum of squares of the 40 samples of dp at the lag, which `l_squares` promises.
 use mathlib.Core.Path.{refl, ap, _∙_}
 use native.Mathlib.Omega.{arith}
 use borrow.Author.Needs.{needs}

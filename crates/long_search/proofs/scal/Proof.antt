@@ -1,4 +1,4 @@
--- The scaling: 6 less the norm of the largest size, not below 0.
+-- Two cases of dmax, 0 or above, and two of its norm: 6 less the norm, not below 0.
 use Prim.Native.Nat.{_*_, _%_}
 use mathlib.Core.Path.{_≡_, sym, ap, _∙_}
 use mathlib.Core.Bool.{true, false, cond}

@@ -1,4 +1,4 @@
--- Each sample shifted by the scaling, and so within 512.
+-- Iteration k stores sample k shifted by the scaling. Each is at most 512 in size, because dmax is (`scal-small`).
 use Prim.Native.Nat.{ℕ, _-_, _≤_, _<_}
 use mathlib.Core.Path.{_≡_, refl, sym, ap₂, _∙_}
 use mathlib.Core.Logic.{⊎-elim}
@@ -58,7 +58,8 @@ returns c =
     let t = c .before in
     let s = t .before in
     let d = s .args .d .now in
-    let e : t .loop .wt ≡ scaled d = fill-end (scaled d) (replicate 40 (pos 0)) (t .loop .k) (t .loop .inv .2) (omega (arith, forty s)) (omega arith) in (
+    let e : t .loop .wt ≡ scaled d =
+    fill-end (scaled d) (replicate 40 (pos 0)) (t .loop .k) (t .loop .inv .2) (omega (arith, forty s)) (omega arith) in (
       rw (s .pre .1) e,
       rw (e, every-map) (every-places _ d (pos 0) (λ j h. le-leb _ 512 (t .loop .inv .3 j (omega (arith, s .pre .0))))),
     )
