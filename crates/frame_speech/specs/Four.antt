@@ -12,7 +12,7 @@ use Rattle.standard.specs.ShortTerm.{coefficients}
 use Rattle.short_synthesis.specs.Speech.{speech, spoken, paired-length}
 use Rattle.short_ratios.specs.Stretches.{rps, coefficients-are}
 
--- a frame, from v[0..7] and msr, the ratios of the frame before and of this one, and the residual
+-- a frame, from v[0..7] and msr, the ratios of the frame before and of this one, and wt[0..159]
 unfoldable pub frame-spoken : List ℤ → ℤ → List ℤ → List ℤ → List ℤ → (List ℤ × ℤ) × List ℤ
 frame-spoken v msr old new wt = run speech (v, msr) (zip (coefficients old new) wt)
 

@@ -5,7 +5,7 @@ ghost use mathlib.Core.Path.{_≡_};
 ghost use lib.ListN.{length};
 ghost use Rattle.frame_speech.specs.Four.{frame-spoken};
 
-// From the residual wt[0..159] to the samples. old and new are the ratios of the frame before and of this one.
+// From the reconstructed wt[0..159] to the samples. old and new are the ratios of the frame before and of this one.
 pub fn frame(s: Cells, old: [i16; 8], new: [i16; 8], wt: &[i16], srop: &mut [i16]) -> Cells
     requires { ⌜ (length (now wt) ≡ 160) × (length (now srop) ≡ 160) ⌝ }
     ensures v { λ r. ⌜ r .v ≡ frame-spoken (s .v) (s .msr) old new (now (wt .entry)) .0 .0 ⌝ }

@@ -1,4 +1,4 @@
--- The history and what is added to it in one list: the last n of what is there are lent with room for k more.
+-- The history and what is added to it in one list: its last n samples are passed on as a part, with k more to be filled.
 use Prim.Native.Nat.{ℕ, _+_, _≤_}
 use mathlib.Core.Path.{_≡_, refl, ap, ap₂, sym, _∙_}
 use mathlib.Core.List.{List, [], _∷_, _++_, append-assoc, append-nil}
@@ -10,38 +10,39 @@ use Rattle.math_lists.specs.Parts.{put}
 use Rattle.standard.specs.Rpe.{updated}
 
 module _ {A : Type 0} (x r : List A) (a n k : ℕ) (h : length x ≡ a + n) where
-  -- what is lent starts with them
+  -- the part starts with the last n of x
   pub window : take n (take (n + k) (drop a (x ++ r))) ≡ drop a x
   window =
       rw (take-take n (n + k) (drop a (x ++ r)) (omega arith), drop-append-le a x r (omega arith))
       (take-at (drop a x) r n (rw length-drop (omega arith)))
 
-  -- and where it comes back with k more, these stand after all that was there
+  -- and where the part comes back with k more, these stand after x
   pub window-put : (new : List A) → put a (n + k) (x ++ r) (drop a x ++ new) ≡ (x ++ new) ++ drop k r
   window-put new =
       let far : a + (n + k) ≡ length x + k = omega arith in
       let rest : drop (n + k) (drop a (x ++ r)) ≡ drop k r = drop-drop (n + k) a (x ++ r) ∙ rw (far, drop-append-add x r k) in
-      rw (rest, take-append-le a x r (omega arith), append-assoc, ← append-assoc (take a x) (drop a x) (new ++ drop k r), take-append-drop, append-assoc)
+      let joined = append-assoc (take a x) (drop a x) (new ++ drop k r) in
+      rw (rest, take-append-le a x r (omega arith), append-assoc, ← joined, take-append-drop, append-assoc)
 
--- the history after 40 more is the last of what is there then
+-- the history after 40 more samples is the end of the longer list
 pub window-updated : (x new : List ℤ) (a : ℕ) → a + 40 ≤ length x → updated (drop a x) new ≡ drop (a + 40) (x ++ new)
 unfolding updated
 window-updated x new a h = rw (drop-drop 40 a x, drop-append-le (a + 40) x new h)
 
--- 40 samples at the end of a list of 160
+-- 40 samples stored at the end of a list of 160
 pub put-last : {A : Type 0} (xs ys : List A) → length xs ≡ 160 → put 120 40 xs ys ≡ take 120 xs ++ ys
 put-last xs ys h = rw (drop-drop, drop-of-length-le xs {i = 160} (omega arith), append-nil)
 
 -- ---- sub-frame by sub-frame
 
--- a list h of which x stands first, then r; the last 120 of x, from a on, are the history dp
+-- the list h is x and then r; the last 120 of x, from index a on, are the history dp
 pub record Stands (a : ℕ) (dp x r h : List ℤ) : Type 0 where
   pub list : h ≡ x ++ r
   pub size : length x ≡ a + 120
   pub last : drop a x ≡ dp
 
 module _ {a : ℕ} {dp x r h : List ℤ} (t : Stands a dp x r h) where
-  -- what is lent to the next sub-frame starts with the history
+  -- the part that the next sub-frame gets starts with the history
   pub stands-lent : take 120 (take 160 (drop a h)) ≡ dp
   stands-lent = rw (t .list) (window x r a 120 40 (t .size) ∙ t .last)
 
@@ -56,7 +57,7 @@ module _ {a : ℕ} {dp x r h : List ℤ} (t : Stands a dp x r h) where
         last = sym (ap (λ (d : List ℤ). updated d new) (sym (t .last)) ∙ window-updated x new a (omega (arith, t .size)));
       }
 
-  -- after the last sub-frame nothing is left over
+  -- after the last sub-frame nothing follows x
   pub stands-all : length r ≡ 0 → h ≡ x
   stands-all l = t .list ∙ rw (none r l, append-nil)
     where

@@ -79,8 +79,8 @@ fn step(n: usize, rn: i16, a: Arrays) -> Arrays
     Arrays { p: p, k: k }
 }
 
-// The recursion, from L_ACF[0..8]. It stops where P[0] < abs( P[1] ), and goes on at equality. The coefficients from the
-// stop on are 0.
+// The recursion, from L_ACF[0..8]. It stops where P[0] < abs( P[1] ), and goes on at equality. The coefficients from
+// the stop on are 0.
 pub fn reflection_coefficients(l_acf: [i32; 9]) -> Reflection
     requires { ⌜ leZ (pos 0) («l_acf» at 0) ≡ true ⌝ }
     ensures r { λ r. ⌜ r .r ≡ lpc.r «l_acf» ⌝ }

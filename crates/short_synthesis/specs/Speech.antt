@@ -1,4 +1,4 @@
--- 4.3.4 to 4.3.7 in one pass: what each sample goes through, from the residual to the output.
+-- 4.3.4 to 4.3.7 in one pass: what each sample goes through, from wt[k] to the output srop[k].
 use Prim.Native.Nat.{ℕ, _<_}
 use mathlib.Core.Path.{_≡_, refl}
 use mathlib.Core.Bool.{Bool, true}

@@ -143,8 +143,8 @@ fn limited(r: Line, v: Line, wt: i32) -> Line
     }
 }
 
-// ---- The fast way. Its cells and sri are kept with 32768 added (the bias), so that one test says of a sum that it fits
-// 16 bits (`lifted`). `low` of such a number is the word that it stands for (specs/Biased).
+// ---- The fast way. Its cells and sri are kept with 32768 added (the bias), so that one test says of a sum that it
+// fits 16 bits (`lifted`). `low` of such a number is the word that it stands for (specs/Biased).
 
 // Whether a number with the bias stands for a word.
 fn is_lifted(z: i32) -> bool

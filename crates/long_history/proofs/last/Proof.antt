@@ -1,3 +1,4 @@
+-- Iteration k copies sample k. After 120 iterations the array is the slice.
 use mathlib.Core.Path.{_≡_, refl}
 use Prim.Native.Nat.{_-_, _≤_}
 use native.Mathlib.Omega.{arith}

@@ -1,3 +1,4 @@
+-- The list starts as 280 zeros. Iteration k copies sample k, so the first 120 become the history and 160 zeros stay.
 use mathlib.Core.Path.{_≡_, refl, _∙_}
 use Prim.Native.Nat.{_-_, _≤_}
 use native.Mathlib.Omega.{arith}
@@ -23,7 +24,8 @@ loop-again c =
     let n : length dp ≡ 120 = search needs in (
       search needs,
       simp length-set (t .loop .inv .1),
-      fill-next dp (replicate 280 (pos 0)) (t .loop .k) (t .loop .inv .2) (pos 0) (omega arith) (omega arith) (back (sfits-of (c .all .given))),
+      fill-next dp (replicate 280 (pos 0)) (t .loop .k) (t .loop .inv .2) (pos 0) (omega arith) (omega arith)
+          (back (sfits-of (c .all .given))),
     )
 
 returns : tie.Need-returns Inv-loop μ-loop
