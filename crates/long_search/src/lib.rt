@@ -31,7 +31,7 @@ pub struct Parameters {
     pub bc: usize,
 }
 
-// The scaling of d[0..39]: 6 less its norm, not below 0.
+// scal: 6 less the norm of the largest size in d[0..39], not below 0.
 fn scal(d: &[i16]) -> i16
     ensures { λ r. ⌜ r ≡ standard.scal (now (d .entry)) ⌝ }
 {
@@ -44,7 +44,7 @@ fn scal(d: &[i16]) -> i16
     if 6 < temp { 0 } else { op_words::sub(6, temp) }
 }
 
-// wt[0..39]: d, scaled to 10 bits.
+// wt[0..39]: d, scaled to at most 512 in size.
 fn weighed(scal: i16, d: &[i16]) -> [i16; 40]
     requires { ⌜ (length (now d) ≡ 40) × (scal ≡ standard.scal (now d)) ⌝ }
     ensures is { λ r. ⌜ r ≡ map (λ x. shr w16 x scal) (now (d .entry)) ⌝ }

@@ -1,4 +1,4 @@
--- 4.2.4: which largest sizes have which scale, what the scaling does to a sample, and which samples lose bits in the scaling back.
+-- 4.2.4: the bound on the largest size at each scale, what the scaling does to a sample, and which samples lose bits in the scaling back.
 use Prim.Native.Nat.{ℕ, suc, _+_, _*_, _-_, _/_, _^_, _≤_, _<_, min}
 use mathlib.Core.Path.{_≡_, refl, sym, ap, _∙_}
 use mathlib.Core.Bool.{true, false}
@@ -46,29 +46,29 @@ scale-heard s h =
 
 -- ---- the scales
 
--- a scale of n + 1, from 1 to 4, and the sizes that have it
+-- the scale is n + 1, from 1 to 4, and the largest size is below 2^(12 + n)
 pub record Scale (s : List ℤ) : Type 0 where
   pub n : ℕ
   pub is : scalauto s ≡ pos (suc n)
   pub most : n ≤ 3
   pub below : P (peak s) < 2 ^ (12 + n)
 
--- no scale above 0, and the sizes that have none
+-- the scale is not above 0, and the largest size is below 2048
 abbrev pub Unscaled : List ℤ → Type 0
 Unscaled s = (ltZ (pos 0) (scalauto s) ≡ false) × (P (peak s) < 2048)
 
--- one power of 2 times another
+-- the product of two powers of 2
 pub powers : (a b c : ℕ) → a + b ≡ c → 2 ^ a * 2 ^ b ≡ 2 ^ c
 powers a b c e = sym (pow-add 2 a b) ∙ ap (λ (x : ℕ). 2 ^ x) e
 
--- it is one or the other
+-- all samples have one or the other
 pub scale-cases : (s : List ℤ) → Scale s ⊎ Unscaled s
 scale-cases s = ⊎-elim heard (λ e. inr (silent e)) (either (ltZ (pos 0) (peak s)))
   where
     silent : ltZ (pos 0) (peak s) ≡ false → Unscaled s
     silent e = (rw (scale-silent s (omega (zar, peak-halves s))) refl, omega (zar, peak-halves s))
 
-    -- by norm's shifts
+    -- if norm gives m shifts
     by : (m : ℕ) → scalauto s ≡ pos 4 -ℤ pos m → P (peak s) * 2 ^ m < 32768 → Scale s ⊎ Unscaled s
     by m e b =
         ⊎-elim
@@ -101,12 +101,12 @@ factor-is n h =
     let e : sub (pos (suc n)) (pos 1) ≡ pos n = minus-plain (pos (suc n)) (pos 1) (omega (zar, d)) ∙ omega (zar, d) in
     rw e (ap (λ (x : ℕ). pos (x / 2 ^ n)) (sym p) ∙ ap pos (shl-shr (2 ^ (14 - n)) n))
 
--- scaling by it
+-- the scaling multiplies by this factor
 pub scaled-by : (n : ℕ) (s : List ℤ) → n ≤ 3 → scaled (pos (suc n)) s ≡ map (λ x. mult-r x (pos (2 ^ (14 - n)))) s
 unfolding scaled
 scaled-by n s h = let e : ltZ (pos 0) (pos (suc n)) ≡ true = omega zar in rw (e, factor-is n h)
 
--- no scaling
+-- where the scale is not above 0, it changes nothing
 pub scaled-not : (scale : ℤ) (s : List ℤ) → ltZ (pos 0) scale ≡ false → scaled scale s ≡ s
 unfolding scaled
 scaled-not scale s e = rw e

@@ -9,7 +9,7 @@ ghost use Rattle.standard.specs.Lpc.{scalauto, scaled, rescaled, L-ACF};
 ghost use Rattle.op_sums.specs.Room.{at-most};
 ghost use Rattle.lpc_autocorrelation.specs.Blocks.{padded, upto};
 
-// scalauto: the number of bits by which the samples are scaled down, so that the largest has at most 11 bits; 0 for
+// scalauto: if it is above 0, the number of bits by which the samples are scaled down, to at most 2048 in size; 0 for
 // silence.
 pub fn scalauto(s: &[i16]) -> i16
     ensures { λ r. ⌜ r ≡ scalauto (now (s .entry)) ⌝ }
@@ -60,7 +60,7 @@ fn at_distance(k: usize, z: &[i16]) -> i32
     sum
 }
 
-// L_ACF[0..8] of the scaled samples.
+// L_ACF[0..8] from the scaled samples.
 pub fn l_acf(s: &[i16]) -> [i32; 9]
     requires { ⌜ (length (now s) ≡ 160) × (every (at-most 2048) (now s) ≡ true) ⌝ }
     ensures { λ r. ⌜ r ≡ L-ACF (now (s .entry)) ⌝ }

@@ -22,7 +22,7 @@ use Rattle.short_analysis.specs.Orders.{column, orders}
 unfoldable pub columns : List ℤ → List ℤ → List ℤ → List ℤ → List (List ℤ)
 columns first second third fourth = tab (λ i. spread (first at i) (second at i) (third at i) (fourth at i)) 0 8
 
--- with the cells they are eight pairs
+-- paired with the cells they are eight pairs
 pub pairs-eight : (first second third fourth u : List ℤ) → length u ≡ 8 → length (zip (columns first second third fourth) u) ≡ 8
 unfolding columns
 pairs-eight first second third fourth u h = rw (pairs-length, tab-length) (omega arith)
@@ -48,7 +48,7 @@ module _ (first second third fourth u s : List ℤ) where
     pub kept-length : length kept ≡ 8
     pub along : Along (stage 159) (s, s) (zip (columns first second third fourth) u) (di, drop 1 p) i kept
 
-  -- the next section takes sav from p to q, so the two lists change places; its new cell r is kept as r′
+  -- the next section takes sav from p to q, so the two lists are exchanged; its new cell r is kept as r′
   pub done-next : {i : ℕ} {di p q kept rp di′ p′ q′ : List ℤ} {v r r′ : ℤ} → Done i di p q kept → length u ≡ 8 → i < 8
       → rp ≡ own first second third fourth i → v ≡ u at i → let t = stage 159 (di, drop 1 p) (rp, v) in
       p′ ≡ v ∷ drop 1 p → di′ ≡ t .0 .0 → q′ ≡ q at 0 ∷ t .0 .1 → r ≡ t .1 → r′ ≡ r → Done (i + 1) di′ q′ p′ (set kept i r′)

@@ -62,7 +62,7 @@ stage-length n di sav rp u r d s =
 
 -- ---- the coefficients of the four stretches
 
--- four parts of 160 that were filled with one coefficient each
+-- a list of 160 whose four parts are filled with one coefficient each
 pub spread-parts : (xs y₀ y₁ y₂ y₃ : List ℤ) (a b c d : ℤ) → length xs ≡ 160
     → y₀ ≡ replicate 13 a → y₁ ≡ replicate 14 b → y₂ ≡ replicate 13 c → y₃ ≡ replicate 120 d
     → lent-four xs y₀ y₁ y₂ 13 14 13 y₃ 120 ≡ spread a b c d
@@ -70,7 +70,7 @@ unfolding spread
 spread-parts xs y₀ y₁ y₂ y₃ a b c d h e₀ e₁ e₂ e₃ =
     four xs y₀ y₁ y₂ 13 14 13 120 (ap length e₀) (ap length e₁) (ap length e₂) h y₃ (ap length e₃) ∙ rw (e₀, e₁, e₂, e₃) refl
 
--- a test that each of the four passes is passed at each sample
+-- a test that holds for each of the four coefficients holds at each sample
 pub spread-every : (p : ℤ → Bool) (a b c d : ℤ) → p a ≡ true → p b ≡ true → p c ≡ true → p d ≡ true → every p (spread a b c d) ≡ true
 unfolding spread
 spread-every p a b c d h₀ h₁ h₂ h₃ =

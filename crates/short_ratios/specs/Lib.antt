@@ -1,4 +1,4 @@
--- All that the specs of this crate have: the four stretches, the bound of a coefficient, the piecewise line as a least.
+-- All that the specs of this crate have: the four stretches, the bound of a coefficient, and the piecewise line as the least of three.
 pub mod Stretches
 pub mod Bounds
 pub mod Least

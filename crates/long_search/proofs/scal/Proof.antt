@@ -21,11 +21,11 @@ use Rattle.long_search.proofs.scal.Tie as tie
 abbrev dmax : tie.Start → ℤ
 dmax s = peak (s .args .d .now)
 
--- dmax as the code has it
+-- the code's dmax is the definition's
 dmax-is : (c : tie.After-peak) → mem w16 (c .peak .result) ≡ dmax (c .before)
 dmax-is c = res (c .peak) ∙ c .peak .ensures
 
--- and at the top of a long word
+-- and so is dmax shifted left by 16, of which norm is taken
 top-is : (c : tie.After-peak) → toZ w32 ((ofZ w32 (mem w16 (c .peak .result)) * 65536) % 4294967296) ≡ up w32 (dmax (c .before)) 16
 top-is c = up-bits w32 (mem w16 (c .peak .result)) 16 (search zfits) ∙ ap (λ (z : ℤ). up w32 z 16) (dmax-is c)
 
@@ -45,7 +45,7 @@ other c =
 norm-requires : tie.Need-norm-requires
 norm-requires c κs = rw (top-is (c .before)) (dmax-above _ (other c))
 
--- temp, either way
+-- temp in both cases
 temp-is : (c : tie.Joined1) → let x = dmax (c .before .before) in toZ w16 (c .if1 .temp) ≡ cond (is-zero x) (pos 0) (norm (up w32 x 16))
 temp-is c =
     ⊎-elim

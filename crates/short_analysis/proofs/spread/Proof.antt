@@ -11,7 +11,7 @@ use Rattle.short_analysis.specs.Sections.{spread-parts}
 use Rattle.short_analysis.proofs.spread.Statement.{statement}
 use Rattle.short_analysis.proofs.spread.Tie as tie
 
--- a part of n that was filled has n times x
+-- a part of length n that was filled with x is n copies of x
 filled-by : (n : ℕ) (x : ℤ) (part : List ℤ) {y : ℤ} {ys : List ℤ}
     → ys ≡ replicate (length part) y → length part ≡ n → y ≡ x → ys ≡ replicate n x
 filled-by n x part e k h = e ∙ ap₂ replicate k h
