@@ -1,5 +1,5 @@
-// 4.2.12, 4.2.18, 4.3.2: long term filtering: the lag in use, the estimate from the history, the residual, and what a
-// sub-frame adds to the history.
+// 4.2.12, 4.2.18, 4.3.2, long term filtering: the lag in use, the estimate from the history, the residual, and the
+// samples that a sub-frame adds to the history.
 ghost use mathlib.Core.Path.{_≡_};
 ghost use mathlib.Core.List.{zipWith};
 ghost use Prim.Native.Nat.{_≤_};
@@ -8,7 +8,7 @@ ghost use Rattle.standard.specs.Arithmetic.{add};
 ghost use Rattle.standard.specs.LongTerm.{dpp, residual};
 ghost use Rattle.standard.specs.Decoder.{Nr};
 
-// 4.3.2: the received lag, or the remembered one where that is no lag from 40 to 120.
+// 4.3.2: the received lag if it is from 40 to 120, else the remembered one.
 pub fn used_lag(nrp: i16, ncr: i16) -> i16
     ensures { λ r. ⌜ r ≡ Nr nrp ncr ⌝ }
 {
@@ -18,8 +18,8 @@ pub fn used_lag(nrp: i16, ncr: i16) -> i16
     if 120 < ncr { nrp } else { ncr }
 }
 
-// 4.2.12: the estimate dpp, from the last 120 samples and a gain code. A lag of 40 or more needs no sample of this
-// sub-frame.
+// 4.2.12: the estimate dpp, from the last 120 samples and a gain code. With a lag of 40 or more it needs no sample of
+// this sub-frame.
 pub fn estimate(dp: &[i16], lag: usize, bc: usize) -> [i16; 40]
     requires { ⌜ (length (now dp) ≡ 120) × ((40 ≤ lag) × (lag ≤ 120)) ⌝ }
     ensures { λ r. ⌜ r ≡ dpp lag bc (now (dp .entry)) ⌝ }
@@ -45,7 +45,7 @@ pub fn residual(d: &[i16], dpp: [i16; 40]) -> [i16; 40]
     e
 }
 
-// 4.2.18: the 40 samples that a sub-frame adds to the history, pulses and estimate together.
+// 4.2.18: the 40 samples that a sub-frame adds to the history: the pulses plus the estimate.
 pub fn reconstructed(ep: [i16; 40], dpp: [i16; 40], new: &mut [i16])
     requires { ⌜ length (now new) ≡ 40 ⌝ }
     ensures { λ _. ⌜ now (new .exit) ≡ zipWith add ep dpp ⌝ }

@@ -1,3 +1,5 @@
+-- Iteration k stores the gain times the sample at 120 − lag + k of the history, by mult_r. That is entry k of dpp, so after 40
+-- iterations the array is dpp.
 use mathlib.Core.Path.{_≡_, refl, ap, _∙_}
 use Prim.Native.Nat.{ℕ, _+_, _-_, _<_, _≤_}
 use native.Mathlib.Omega.{arith}
@@ -34,7 +36,7 @@ lag c = record { least = c .pre .1 .0; most = c .pre .1 .1 }
 forty : (c : tie.Start Inv-loop μ-loop) → length (dpp (c .args .lag) (c .args .bc) (c .args .dp .now)) ≡ 40
 forty c = dpp-length (c .args .lag) (c .args .bc) (c .args .dp .now) (lag c) (c .pre .0)
 
--- and at k it has the history's sample of lag before, times the gain
+-- and entry k is the gain times the history's sample at 120 − lag + k
 entry : (c : tie.Start Inv-loop μ-loop) (k : ℕ) → k < 40
     → dpp (c .args .lag) (c .args .bc) (c .args .dp .now) at k ≡ mult-r (QLB at c .args .bc) (c .args .dp .now at (120 - c .args .lag + k))
 unfolding dpp
@@ -49,10 +51,11 @@ loop-again c =
     let k = c .before .before .before in
     let s = k .before .before in
     let i = k .loop .k in
+    let whole = dpp (s .args .lag) (s .args .bc) (s .args .dp .now) in
     let f : SFits w16 (s .args .dp .now at (120 - s .args .lag + i)) = sfits-of (c .before .mult-r-arg .given) in (
       search needs,
       simp length-set (k .loop .inv .1),
-      fill-next (dpp (s .args .lag) (s .args .bc) (s .args .dp .now)) (replicate 40 (pos 0)) i (k .loop .inv .2) (pos 0) (omega (arith, forty s)) (omega arith)
+      fill-next whole (replicate 40 (pos 0)) i (k .loop .inv .2) (pos 0) (omega (arith, forty s)) (omega arith)
           (cc (local f, res (k .before .gain-qlb), res (c .mult-r), entry s i (omega arith))),
     )
 

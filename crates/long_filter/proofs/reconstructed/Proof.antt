@@ -1,3 +1,4 @@
+-- Iteration k stores the sum of ep[k] and dpp[k], by add. After 40 iterations the buffer holds the 40 sums.
 use mathlib.Core.Path.{_≡_, refl, sym, ap₂, _∙_}
 use mathlib.Core.List.{zipWith}
 use Prim.Native.Nat.{_-_, _≤_}
@@ -23,7 +24,7 @@ abbrev μ-loop : tie.MeasureT-loop
 loop-holds : tie.Need-loop-holds Inv-loop μ-loop
 loop-holds c = (search needs, search needs, refl)
 
--- the sums are 40
+-- there are 40 sums
 forty : (c : tie.Start Inv-loop μ-loop) → length (zipWith add (c .args .t1) (c .args .t2)) ≡ 40
 forty c =
     let l : length (c .args .t1) ≡ 40 = search needs in
@@ -38,11 +39,12 @@ loop-again c =
     let l : length (a .t1) ≡ 40 = search needs in
     let m : length (a .t2) ≡ 40 = search needs in
     let f : SFits w16 (getD (a .t1) i (pos 0)) = search needs in
-    let g : SFits w16 (getD (a .t2) i (pos 0)) = search needs in (
+    let g : SFits w16 (getD (a .t2) i (pos 0)) = search needs in
+    let entry = zip-at add (a .t1) (a .t2) i (pos 0) (pos 0) (pos 0) (omega arith) (omega arith) in (
       search needs,
       simp length-set (k .loop .inv .1),
       fill-next (zipWith add (a .t1) (a .t2)) (a .new .now) i (k .loop .inv .2) (pos 0) (omega (arith, forty (k .before))) (omega arith)
-          (res (c .add) ∙ (c .add .ensures ∙ (ap₂ add (back f) (back g) ∙ sym (zip-at add (a .t1) (a .t2) i (pos 0) (pos 0) (pos 0) (omega arith) (omega arith))))),
+          (res (c .add) ∙ (c .add .ensures ∙ (ap₂ add (back f) (back g) ∙ sym entry))),
     )
 
 returns : tie.Need-returns Inv-loop μ-loop

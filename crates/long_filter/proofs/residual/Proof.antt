@@ -1,4 +1,4 @@
--- Turn k stores d[k] less the estimate, by sub. After 40 turns this is the residual.
+-- Iteration k stores d[k] less dpp[k], by sub. After 40 iterations the array is the residual.
 use mathlib.Core.Path.{_≡_, refl, sym, ap₂, _∙_}
 use Prim.Native.Nat.{_-_, _≤_}
 use native.Mathlib.Omega.{arith}

@@ -1,3 +1,4 @@
+-- One return for each outcome of the two tests, each by the definition Nr with the same outcome.
 use mathlib.Core.Path.{_≡_}
 use mathlib.Core.Bool.{true, false}
 use lib.IntN.{pos}
