@@ -1,4 +1,5 @@
--- 01, sums (e) and (f): a grid's energy is within 1744830464 and the filter's sum within 1625169920, and no step of either meets its limit.
+-- House rules, 'Six sums' (e) and (f): a grid's energy is from 0 to 1744830464, the filter's sum is at most 1625169920 in size, and no
+-- step of either saturates.
 use Prim.Native.Nat.{ℕ, _<_, _≤_}
 use mathlib.Core.Path.{_≡_, refl, _∙_}
 use mathlib.Core.Bool.{true}
@@ -57,7 +58,7 @@ module _ (m : ℕ) (x : List ℤ) (k : m ≤ 3) (l : length x ≡ 40) (f : every
 
 -- ---- the filter's sum
 
--- eleven words are all heard
+-- where all eleven are words, those that the filter uses are
 heard : (x : List ℤ) → length x ≡ 11 → every word x ≡ true → Heard x
 heard x l f =
     let w : (i : ℕ) → i < 11 → SFits w16 (x at i) = λ i h. word-is (x at i) (every-at word x i (pos 0) f (omega arith)) in
@@ -89,7 +90,7 @@ module _ (e : List ℤ) (k : ℕ) (l : length e ≡ 40) (f : every word e ≡ tr
   all-heard : Heard window
   all-heard = heard window eleven (every-take word 11 (drop k (around e)) (every-drop word k (around e) words))
 
-  -- sum (f): it is within 1625169920
+  -- sum (f): it is at most 1625169920 in size
   pub filter-in : natAbs (L-sum (pos 8192) (drop k (around e)) H) ≤ 1625169920
   filter-in = rw (sum-front (drop k (around e))) at (taps-in window eleven all-heard)
 

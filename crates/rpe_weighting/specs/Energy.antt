@@ -1,5 +1,5 @@
--- 4.2.14: the energies of the four grids from one list, that of the samples' squares. No sum of thirteen of them comes near a limit, so an
--- energy is a plain sum, doubled. The sum over grid 3 comes from that over grid 0, with which it has twelve samples in common.
+-- 4.2.14: the energies of the four grids, from one list of the samples' squares. No sum of thirteen squares saturates, so an energy is a
+-- plain sum, doubled. The sum over grid 3 is made from the sum over grid 0: the two grids share twelve samples.
 use Prim.Native.Nat.{ℕ, _+_, _*_, _<_, _≤_}
 use mathlib.Core.Path.{_≡_, refl, sym, ap, _∙_}
 use mathlib.Core.Bool.{Bool, true}
@@ -25,19 +25,19 @@ use Rattle.law_loops.specs.Positions.{grid-at}
 use Rattle.op_sums.specs.Room.{at-most, square-in, L-sum-plain}
 use Rattle.op_sums.specs.Split.{sum-from}
 
--- the square of a sample, once it is shifted right by 2
+-- the square of a sample, after a shift right by 2
 abbrev pub square : ℤ → ℤ
 square y = (y >> 2) *ℤ (y >> 2)
 
--- of each sample
+-- the squares of all samples
 abbrev pub squared : List ℤ → List ℤ
 squared x = map square x
 
--- of a size up to 8192 · 8192
+-- a number of a size up to 8192 · 8192
 abbrev pub small : ℤ → Bool
 small = at-most 67108864
 
--- as the squares of words are
+-- the squares of words are small
 pub words-small : (x : List ℤ) → every word x ≡ true → every small (squared x) ≡ true
 words-small x f =
     rw every-map (every-so word (λ y. small (square y)) (λ y h. le-leb _ 67108864 (square-in 2 y (omega arith) (word-is y h))) x f)
@@ -47,12 +47,12 @@ words-small x f =
 abbrev pub total : ℕ → List ℤ → ℤ
 total m q = foldl _+ℤ_ (pos 0) (grid m q)
 
--- of its first n alone
+-- the sum of its first n alone
 abbrev pub part : ℕ → List ℤ → ℕ → ℤ
 part m q n = foldl _+ℤ_ (pos 0) (take n (grid m q))
 
 module _ (m : ℕ) (q : List ℤ) where
-  -- a turn of a loop that adds one up
+  -- an iteration of a loop that adds them up
   pub part-next : (n : ℕ) → n < 13 → part m q n +ℤ q at (m + 3 * n) ≡ part m q (n + 1)
   part-next n h =
       let l : n < length (grid m q) = omega (arith, grid-length m q) in
@@ -74,7 +74,7 @@ module _ (q : List ℤ) (l : length q ≡ 40) (f : every small q ≡ true) where
         (λ i h. let g : i < 13 = omega (arith, grid-length m q) in
         rw (grid-at m q i g) (le-leb _ 67108864 (small-at (m + 3 * i) (omega arith))))
 
-    -- no sum over a grid passes thirteen times as much, on its way or at its end
+    -- no sum over a grid, partial or whole, is above thirteen times as much
     pub part-in : (n : ℕ) → natAbs (part m q n) ≤ 872415232
     part-in n =
         let xs = take n (grid m q) in
@@ -112,7 +112,7 @@ module _ (m : ℕ) (x : List ℤ) where
       ∙ (square-at i g ∙ sym (grid-at m (squared x) i g)))
 
   module _ (k : m ≤ 3) (l : length x ≡ 40) (f : every small (squared x) ≡ true) where
-    -- each of them is small, and thirteen have room
+    -- each of them is small, and their doubled sum fits 32 bits
     pub wt-in : (i : ℕ) → i < length wt → natAbs (wt at i *ℤ wt at i) ≤ 67108864
     wt-in i h =
         let g : i < 13 = omega (arith, thirteen) in
@@ -129,7 +129,7 @@ module _ (m : ℕ) (x : List ℤ) where
 
 -- ---- grid 3 is grid 0 without its first sample and with sample 39
 
--- so the sum over it is that over grid 0 less the first number and with the last
+-- so the sum over grid 3 is the sum over grid 0, less sample 0 and plus sample 39
 pub fourth-is : (q : List ℤ) → total 0 q -ℤ q at 0 +ℤ q at 39 ≡ total 3 q
 unfolding grid tab
 fourth-is q =

@@ -52,17 +52,17 @@ unfolding H
 front f x = sym (zip-take f 11 x H) ∙ take-all 11 (zipWith f x H) (omega (arith, zip-length f x H))
 
 module _ (x : List ℤ) where
-  -- for its sum
+  -- its sum needs no more
   pub sum-front : L-sum (pos 8192) (take 11 x) H ≡ L-sum (pos 8192) x H
   unfolding L-sum
   sum-front = ap (foldl L-add (pos 8192)) (front L-mult x)
 
-  -- nor for what it gives
+  -- nor does its result
   pub filtered-front : filtered (take 11 x) ≡ filtered x
   unfolding filtered
   filtered-front = rw sum-front
 
--- those that it hears are words: the third tap and the ninth are 0
+-- the samples that it uses are words. Taps 2 and 8 are 0, so samples 2 and 8 are not used
 pub record Heard (x : List ℤ) : Type 0 where
   pub x0 : SFits w16 (x at 0)
   pub x1 : SFits w16 (x at 1)
@@ -76,7 +76,7 @@ pub record Heard (x : List ℤ) : Type 0 where
 
 -- ---- the terms of its sum
 
--- L_mult of factors whose product has 30 bits
+-- L_mult of factors whose product is at most 2^30 − 1 in size
 term-is : (x h : ℤ) (B : ℕ) → P (x *ℤ h) + N (x *ℤ h) ≤ B → B ≤ 1073741823
     → (P (L-mult x h) ≡ 2 * P (x *ℤ h)) × (N (L-mult x h) ≡ 2 * N (x *ℤ h))
 unfolding L-mult
@@ -101,7 +101,7 @@ module _ (x : ℤ) where
   none-in : natAbs (L-mult x (pos 0)) ≤ 0
   none-in = omega (arith, none-is, abs-is (L-mult x (pos 0)))
 
--- ---- the sum, of eleven samples by their places
+-- ---- the sum, of eleven samples by their indices
 
 -- the terms' bounds: 65536 times the size of each tap
 abbrev bounds : List ℕ
@@ -119,7 +119,7 @@ pair-is h a b =
     let e = add-is a b .0 in
     omega (arith, mul-is h (a +ℤ b), ap (λ (k : ℕ). P h * k) e, ap (λ (k : ℕ). N h * k) e)
 
--- the plain sum as the code takes it: half of 001's, the samples that have the same tap added first
+-- the plain sum as the code takes it: half of the standard's. The two samples that share a tap are added first
 abbrev pub outer : List ℤ → ℤ
 outer x = neg 134 *ℤ (x at 0 +ℤ x at 10) +ℤ neg 374 *ℤ (x at 1 +ℤ x at 9)
 
@@ -192,16 +192,16 @@ double z = omega (arith, add-is z z, apart z, apart (z +ℤ z))
 abbrev twice : ℤ → ℤ
 twice z = L-add z z
 
--- with a limit
+-- with saturation
 twice-is : (z : ℤ) → (P (twice z) ≡ min (2 * P z) 2147483647) × (N (twice z) ≡ min (2 * N z) 2147483648)
 twice-is z = omega (arith, double z, plus-clip w32 z z)
 
 module _ (s : ℤ) where
-  -- three doublings, two of them with a limit, are eight times the number with a limit
+  -- three doublings, two of them with saturation, give eight times the number, clipped
   eight : (P (twice (twice (s +ℤ s))) ≡ min (8 * P s) 2147483647) × (N (twice (twice (s +ℤ s))) ≡ min (8 * N s) 2147483648)
   eight = omega (arith, double s, twice-is (s +ℤ s), twice-is (twice (s +ℤ s)))
 
-  -- the high word of that is the number shifted right by 13, with a limit
+  -- the high word of that is the number shifted right by 13, clipped
   high : low (twice (twice (s +ℤ s)) >> 16) ≡ clip w16 (s >> 13)
   high =
       let u = twice (twice (s +ℤ s)) in
@@ -212,19 +212,20 @@ module _ (s : ℤ) where
 -- ---- so, of eleven samples
 
 module _ (x : List ℤ) (l : length x ≡ 11) (h : Heard x) where
-  -- no step of the sum meets its limit
+  -- no step of the sum saturates
   pub taps-steps : L-sum (pos 8192) x H ≡ foldl _+ℤ_ (pos 8192) (zipWith L-mult x H)
   taps-steps =
-      by-entries (λ x. Heard x → L-sum (pos 8192) x H ≡ foldl _+ℤ_ (pos 8192) (zipWith L-mult x H)) (pos 0) 11 (λ f h. sum-both f h .0) x l h
+      by-entries (λ x. Heard x → L-sum (pos 8192) x H ≡ foldl _+ℤ_ (pos 8192) (zipWith L-mult x H)) (pos 0) 11
+      (λ f h. sum-both f h .0) x l h
 
-  -- it is within 8192 and 65536 times the sizes of the taps
+  -- its size is at most 8192 plus 65536 times the sum of the taps' sizes
   pub taps-in : natAbs (L-sum (pos 8192) x H) ≤ 1625169920
   taps-in = by-entries (λ x. Heard x → natAbs (L-sum (pos 8192) x H) ≤ 1625169920) (pos 0) 11 (λ f h. sum-both f h .1) x l h
 
   taps-is : L-sum (pos 8192) x H ≡ taps x +ℤ taps x
   taps-is = by-entries (λ x. Heard x → L-sum (pos 8192) x H ≡ taps x +ℤ taps x) (pos 0) 11 (λ f h. sum-both f h .0 ∙ sum-is f h) x l h
 
-  -- and the filter is the code's sum, shifted right, with one limit
+  -- and the filter is the code's sum, shifted right and clipped once
   pub filtered-is : filtered x ≡ clip w16 (taps x >> 13)
   unfolding filtered
   filtered-is = rw taps-is (high (taps x))

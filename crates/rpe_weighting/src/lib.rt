@@ -23,7 +23,7 @@ fn surrounded(e: [i16; 40]) -> [i16; 50]
     wt
 }
 
-// A tap times the two samples that have it in common.
+// A tap times the sum of the two samples that share it.
 fn tap(h: i32, a: i16, b: i16) -> i32
     requires { ⌜ natAbs h ≤ 8192 ⌝ }
     ensures is { λ r. ⌜ r ≡ h *ℤ (a +ℤ b) ⌝ }
@@ -32,8 +32,9 @@ fn tap(h: i32, a: i16, b: i16) -> i32
     h * (a as i32 + b as i32)
 }
 
-// 4.2.13: x[k] of wt[k] to wt[k + 10]. The taps are table 4.4's, the two that are 0 left out. 001 sums twice the products from 8192 on,
-// doubles twice with a limit and takes the high word; that is the sum of the products and 4096, shifted right by 13, with one limit.
+// 4.2.13: x[k] from wt[k] to wt[k + 10]. The taps are those of table 4.4, without the two that are 0. The standard adds
+// twice each product to 8192, doubles the sum twice with saturation and takes the high word. The code adds the products
+// and 4096, shifts the sum right by 13 and saturates once. The result is the same.
 fn filtered(wt: &[i16]) -> i16
     requires { ⌜ length (now wt) ≡ 11 ⌝ }
     ensures { λ r. ⌜ r ≡ filtered (now (wt .entry)) ⌝ }
@@ -67,7 +68,7 @@ pub fn grid(m: usize, x: [i16; 40]) -> [i16; 13]
     xm
 }
 
-// 4.2.14: the square of each sample, once it is shifted right by 2. The four energies are sums of these.
+// 4.2.14: the square of each sample, after a shift right by 2. The four energies are sums of these.
 fn squares(x: [i16; 40]) -> [i32; 40]
     ensures is { λ r. ⌜ r ≡ squared x ⌝ }
     ensures small { λ r. ⌜ every (at-most 67108864) r ≡ true ⌝ }
@@ -87,7 +88,7 @@ struct Energies {
     third: i32,
 }
 
-// Thirteen squares have room, so these are plain additions.
+// Thirteen squares fit 32 bits, so these are plain additions.
 fn totals(q: [i32; 40]) -> Energies
     requires { ⌜ every (at-most 67108864) q ≡ true ⌝ }
     ensures first { λ r. ⌜ r .first ≡ total 0 q ⌝ }
@@ -110,7 +111,7 @@ fn totals(q: [i32; 40]) -> Energies
 }
 
 // 4.2.14: the grid of the greatest energy. Grid 3 is grid 0 without its first sample and with sample 39.
-// Each sum is doubled once, where 001's L_mult doubles each square.
+// Each sum is doubled once, where L_mult in the standard doubles each square.
 pub fn mc(x: [i16; 40]) -> usize
     ensures { λ r. ⌜ r ≡ Mc x ⌝ }
 {

@@ -1,4 +1,4 @@
--- The five taps, their pairs and the rounding, step by step within 32 bits, and the one limit at the end.
+-- Each partial sum fits 32 bits, by bounds on the pairs of taps. So the code's sum is `taps`, and the filter by the law `filtered-is`.
 use Prim.Native.Nat.{ℕ, _+_, _≤_}
 use mathlib.Core.Path.{_≡_, sym, ap, ap₂, _∙_}
 use mathlib.Core.List.{List}
@@ -20,7 +20,7 @@ use Rattle.rpe_weighting.proofs.filtered.Tie as tie
 
 -- ---- the words that are read
 
--- before each pair of taps
+-- the points before each pair of taps
 abbrev at1 : tie.After-tap → tie.Start
 at1 c = c .before .before .before
 
@@ -68,7 +68,7 @@ module _ (c : tie.After-tap4) where
 w5 : (c : tie.After-clip-word-arg) → SFits w16 (wt (c .before) at 5)
 w5 c = sfits-of (c .clip-word-arg .given)
 
--- all that the filter hears are words
+-- all that the filter uses are words
 heard : (c : tie.After-clip-word-arg) → Heard (wt (c .before))
 heard c =
     let t4 = c .before in
@@ -77,7 +77,7 @@ heard c =
     let t1 = at2 t2 in
     record { x0 = w0 t1; x1 = w1 t2; x3 = w3 t3; x4 = w4 t4; x5 = w5 c; x6 = w6 t4; x7 = w7 t3; x9 = w9 t2; x10 = w10 t1 }
 
--- ---- the sum has room, and its locals give back what it is
+-- ---- the sum fits 32 bits, and its locals hold it unchanged
 
 -- m, which went through locals, is z, of a size up to b
 record Local (m z : ℤ) (b : ℕ) : Type 0 where
@@ -91,7 +91,7 @@ module _ {m n y z : ℤ} {a b : ℕ} (p : Local m y a) (q : Local n z b) (t : a 
   plus-local : Local (mem w32 (m +ℤ n)) (y +ℤ z) (a + b)
   plus-local = record { is = back plus-fits ∙ ap₂ _+ℤ_ (p .is) (q .is); near = omega (arith, p .near, q .near, add-is y z, apart (y +ℤ z)) }
 
--- with a number to round by
+-- with the rounding term
 rounded-fits : {m z : ℤ} {a : ℕ} (n : ℕ) → Local m z a → T (leb a 2000000000) → T (leb n 8192) → SFits w32 (m +ℤ pos n)
 rounded-fits {m} {z} {a} n p s t = rw (p .is) (omega (zar, p .near, add-is z (pos n), leb→le a 2000000000 s, leb→le n 8192 t))
 

@@ -1,4 +1,4 @@
--- The 13 samples of a grid, one a turn.
+-- Iteration i stores x[m + 3 · i], which is entry i of the grid. After 13 iterations the array is the grid.
 use Prim.Native.Nat.{_+_, _-_, _*_, _≤_}
 use mathlib.Core.Path.{_≡_, refl, sym, _∙_}
 use native.Mathlib.Omega.{arith}

@@ -1,4 +1,4 @@
--- Each sum that the search is handed is the energy of its grid, and four turns of the search find the best of the four.
+-- Each sum that the search gets is the energy of its grid, and four steps of the search find the best of the four.
 use Prim.Native.Nat.{ℕ, _+_, _<_, _≤_}
 use mathlib.Core.Path.{_≡_, sym, ap, ap₂, _∙_}
 use mathlib.Core.Bool.{true, cond}
@@ -35,7 +35,7 @@ energies x = tab (energy x) 0 4
 
 -- ---- the sums
 
--- after the first three: the samples and their squares
+-- after the first three sums: the samples and their squares
 module _ (t : tie.After-totals) where
   abbrev x : List ℤ
   x = t .before .before .args .x
@@ -61,7 +61,7 @@ module _ (t : tie.After-totals) where
 
   -- s is the sum over a grid
   module _ (m : ℕ) (h : m ≤ 3) {s : ℤ} (e : s ≡ total m q) where
-    -- there is room for its double
+    -- its double fits 32 bits
     double-fits : SFits w32 (s +ℤ s)
     double-fits = rw e (omega (zar, total-in q forty all-small m h, abs-is (total m q), add-is (total m q) (total m q)))
 
@@ -72,7 +72,7 @@ module _ (t : tie.After-totals) where
         let q-is = t .before .squares .ensures .0 in
         back double-fits ∙ (ap (λ (z : ℤ). z +ℤ z) (e ∙ ap (total m) q-is) ∙ sym (energy-is m x h l (rw q-is at all-small)))
 
-    -- so a turn of the search goes from b, the best of the grids before, to the best with this one
+    -- so a step of the search goes from b, the best of the grids before, to the best with this one
     turn : {b r : Best} → b ≡ best (take m (energies x)) → r ≡ cond (ltZ (b .sum) (mem w32 (s +ℤ s))) (best-of m (mem w32 (s +ℤ s))) b
         → r ≡ best (take (m + 1) (energies x))
     turn {b} p r =
@@ -81,7 +81,7 @@ module _ (t : tie.After-totals) where
         let d = double-is ∙ sym (tab-at-zero (energy x) 4 m (pos 0) (omega arith)) in
         r ∙ by-cond (λ z. z ≡ best (take (m + 1) xs)) (ltZ (b .sum) (mem w32 (s +ℤ s))) (best-new xs m p l d) (best-old xs m p l d)
 
--- the fourth: the first less the first square
+-- the fourth sum starts as the first sum less square 0
 module _ (c : tie.After-fourth) where
   abbrev three : tie.After-totals
   three = c .before
@@ -100,7 +100,7 @@ module _ (c : tie.After-fourth) where
       let z-in = small-at (q three) (forty three) (all-small three) 0 (omega arith) in
       rw less-is (omega (zar, abs-is s, abs-is z, minus-is s z))
 
--- and with the last
+-- and square 39 is added to it
 module _ (c : tie.After-fourth2) where
   abbrev at-less : tie.After-fourth
   at-less = c .before .before .before
@@ -122,9 +122,9 @@ module _ (c : tie.After-fourth2) where
   last-is : mem w32 fourth ≡ total 3 (q from)
   last-is = back fourth-fits ∙ sum-is
 
--- ---- the four turns
+-- ---- the four steps of the search
 
--- the place after the sums, from each turn
+-- the point after the sums, from each step
 abbrev sums1 : tie.After-better → tie.After-fourth2
 sums1 c = c .before .before .before
 

@@ -1,4 +1,4 @@
--- Turn k stores the square of x[k]. The samples that are read are words, so their squares are small.
+-- Iteration k stores the square of x[k]. The samples that are read are words, so their squares are small.
 use Prim.Native.Nat.{ℕ, _-_, _<_, _≤_}
 use mathlib.Core.Path.{_≡_, refl, sym, ap, _∙_}
 use mathlib.Core.List.{List}

@@ -1,4 +1,4 @@
--- Turn k stores e[k] at 5 + k, in an array of fifty zeros.
+-- Iteration k stores e[k] at 5 + k, in an array of fifty zeros. The first five and the last five stay 0.
 use Prim.Native.Nat.{_+_, _-_, _≤_}
 use mathlib.Core.Path.{_≡_, refl, sym, _∙_}
 use native.Mathlib.Omega.{arith}

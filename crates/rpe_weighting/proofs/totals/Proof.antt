@@ -1,4 +1,4 @@
--- After n turns each of the three is the plain sum of the first n squares of its grid, which has room.
+-- After n iterations each of the three is the plain sum of the first n squares of its grid, and that sum fits 32 bits.
 use Prim.Native.Nat.{ℕ, _+_, _-_, _*_, _≤_}
 use mathlib.Core.Path.{_≡_, refl, ap, ap₂, _∙_}
 use mathlib.Core.List.{List}
@@ -22,7 +22,7 @@ Inv-loop q first₀ second₀ third₀ n₀ first second third n =
 abbrev μ-loop : tie.MeasureT-loop
 μ-loop q first₀ second₀ third₀ n₀ first second third n = 13 - n
 
--- a turn: the squares, and how many of each grid are summed
+-- an iteration: the squares, and how many of each grid are summed
 module _ (t : tie.In-loop Inv-loop μ-loop) where
   abbrev q : List ℤ
   q = t .before .before .args .t1

@@ -1,4 +1,4 @@
--- Each of the 40 outputs from its eleven samples, one a turn.
+-- Iteration k stores the filter's output for the eleven samples from wt[k] on; the filter uses no more of them.
 use Prim.Native.Nat.{_+_, _-_, _≤_}
 use mathlib.Core.Path.{_≡_, refl, sym, ap, _∙_}
 use native.Mathlib.Omega.{arith}
@@ -14,9 +14,13 @@ use Rattle.rpe_weighting.specs.Filter.{filtered-front}
 use Rattle.rpe_weighting.proofs.weighted.Statement.{statement}
 use Rattle.rpe_weighting.proofs.weighted.Tie as tie
 
--- the filter from each place of wt on
+-- the filter's outputs, from each index of wt on
 abbrev outs : List ℤ → List ℤ
 outs wt = tab (λ k. filtered (drop k wt)) 0 40
+
+-- there are 40
+forty : (wt : List ℤ) → length (outs wt) ≡ 40
+forty wt = tab-length (λ k. filtered (drop k wt)) 0 40
 
 abbrev Inv-loop : tie.InvT-loop
 Inv-loop wt x₀ k₀ x k = (k ≤ 40) × (length x ≡ 40) × (x ≡ filled k (outs wt) x₀)
@@ -36,7 +40,7 @@ loop-again c =
     let e = filtered-front (drop k wt) ∙ sym (tab-at-zero (λ k. filtered (drop k wt)) 40 k (pos 0) (omega arith)) in (
       omega arith,
       simp length-set (t .loop .inv .1),
-      fill-next (outs wt) (replicate 40 (pos 0)) k (t .loop .inv .2) (pos 0) (omega (arith, tab-length (λ k. filtered (drop k wt)) 0 40)) (omega arith)
+      fill-next (outs wt) (replicate 40 (pos 0)) k (t .loop .inv .2) (pos 0) (omega (arith, forty wt)) (omega arith)
           (res (c .filtered) ∙ (rw n at (c .filtered .ensures) ∙ e)),
     )
 
@@ -45,7 +49,7 @@ unfolding weighted
 returns c =
     let t = c .before in
     let wt = t .before .surrounded .result in
-    fill-end (outs wt) (replicate 40 (pos 0)) (t .loop .k) (t .loop .inv .2) (omega (arith, tab-length (λ k. filtered (drop k wt)) 0 40)) (omega arith)
+    fill-end (outs wt) (replicate 40 (pos 0)) (t .loop .k) (t .loop .inv .2) (omega (arith, forty wt)) (omega arith)
     ∙ ap outs (t .before .surrounded .ensures)
 
 filtered-requires : tie.Need-filtered-requires Inv-loop μ-loop
