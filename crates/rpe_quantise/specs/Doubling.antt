@@ -1,4 +1,4 @@
--- 4.2.15: how often a mantissa is doubled until it is above 7, and which exponent and mantissa a code has.
+-- 4.2.15: how often a mantissa is doubled until it is above 7, and the exponent and the mantissa of a code.
 use Prim.Native.Nat.{ℕ, suc, _*_, _-_, _^_, _<_, _≤_}
 use mathlib.Core.Path.{_≡_, refl, sym}
 use mathlib.Core.Bool.{Bool, true}
@@ -25,15 +25,16 @@ abbrev pub doubled : ℕ → ℕ → Bool
 doubled m n = leb 9 (suc m * 2 ^ n)
 
 module _ (m : ℕ) where
-  -- the least that do, no more than four, are k where k do and one less do not
+  -- the least number that does so, at most four, is k if k does and k − 1 does not
   pub doubled-by : (k : ℕ) → k ≤ 4 → (0 < k → suc m * 2 ^ (k - 1) < 9) → (k < 4 → 9 ≤ suc m * 2 ^ k) → k ≡ first (doubled m) 4 0
   doubled-by k h less most =
       sym
       (first-unique (doubled m) 4 0 k (omega arith) (omega arith)
-      (λ j _ g. lt-leb 9 (suc m * 2 ^ j) (omega (arith, less (omega arith), mul-le-mul-left (suc m) (pow-mono {i = j} {j = k - 1} (omega arith)))))
+      (λ j _ g. let p = pow-mono {i = j} {j = k - 1} (omega arith) in
+      lt-leb 9 (suc m * 2 ^ j) (omega (arith, less (omega arith), mul-le-mul-left (suc m) p)))
       (λ g. le-leb 9 (suc m * 2 ^ k) (most g)))
 
-  -- and four always do
+  -- and four doublings are always enough
   pub doubled-above : 9 ≤ suc m * 2 ^ first (doubled m) 4 0
   doubled-above =
       let n = first (doubled m) 4 0 in
@@ -42,9 +43,10 @@ module _ (m : ℕ) where
       (λ g. leb-true 9 (suc m * 2 ^ n) (first-holds (doubled m) 4 0 g))
       (le-or-lt 4 n)
 
--- what comes of a code, from that exponent and from the doublings of the mantissa that it leaves
+-- the exponent and the mantissa of a code: e is the exponent before the doublings, m the mantissa that is left, n the doublings of m
 pub amplitude-is : (code : ℤ) (e n : ℕ) → let m = natAbs code - 8 * e in
-    e ≡ exp-of (natAbs code) → n ≡ first (doubled m) 4 0 → (amplitude code .exp ≡ pos e -ℤ pos n) × (amplitude code .mant ≡ suc m * 2 ^ n - 9)
+    e ≡ exp-of (natAbs code) → n ≡ first (doubled m) 4 0
+    → (amplitude code .exp ≡ pos e -ℤ pos n) × (amplitude code .mant ≡ suc m * 2 ^ n - 9)
 unfolding amplitude mantissa
 amplitude-is code e n h k = rw (k, h) (refl, refl)
 
@@ -59,7 +61,7 @@ exp-range code h =
     let e : exp-of c ≤ 6 = by-cond (λ k. k ≤ 6) (leb c 15) (λ _. omega arith) (λ _. omega arith) in
     omega (arith, first-le (doubled m) 4 0, minus-is (pos (exp-of c)) (pos (first (doubled m) 4 0)))
 
--- an exponent from −4 to 6 has a shift from 0 to 10, which meets no clip
+-- 6 less an exponent from −4 to 6 is a shift from 0 to 10, and the difference does not saturate
 pub shift-in : (e : ℤ) → P e ≤ 6 → N e ≤ 4 → let t = natAbs (pos 6 -ℤ e) in (t ≤ 10) × (sub (pos 6) e ≡ pos t)
 shift-in e p n =
     let d = pos 6 -ℤ e in

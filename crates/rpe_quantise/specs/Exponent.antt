@@ -1,4 +1,4 @@
--- 4.2.15: the exponent of xmax, by the powers of 2 between which xmax lies; and that the sum that makes xmaxc meets no limit.
+-- 4.2.15: the exponent of xmax, by the powers of 2 between which xmax lies; and that the sum that makes xmaxc does not saturate.
 use Prim.Native.Nat.{ℕ, _+_, _/_, _*_, _^_, _<_, _≤_}
 use mathlib.Core.Path.{_≡_, sym}
 use mathlib.Core.Bool.{true, false}
@@ -20,20 +20,21 @@ use Rattle.law_fields.specs.Amplitudes.{exp-in}
 use Rattle.rpe_quantise.specs.Shifts.{exp-up}
 
 module _ (x : ℤ) where
-  -- what is below 2 ^ m is gone after m halvings
+  -- a number below 2 ^ m is 0 or less after m halvings
   gone : (m : ℕ) → ltZ x (pos (2 ^ m)) ≡ true → leZ (x >> m) (pos 0) ≡ true
   gone m h =
       let q : P x / 2 ^ m ≡ 0 = div-eq-of-lt (omega (zar, apart x, pow-pos m)) in
       omega (zar, shr-is x (2 ^ m) (pow-pos m))
 
-  -- and what is not below is still there
+  -- and one that is not below is still above 0
   there : (m : ℕ) → ltZ x (pos (2 ^ m)) ≡ false → leZ (x >> m) (pos 0) ≡ false
   there m h =
       let q : 1 ≤ P x / 2 ^ m = le-div-iff-mul-le {x = 1} {y = P x} (pow-pos m) .1 (omega zar) in
       omega (zar, shr-is x (2 ^ m) (pow-pos m), apart (x >> m))
 
   -- the exponent is k where x is below 2 ^ (9 + k), unless k is 6, and not below 2 ^ (8 + k), unless k is 0
-  pub exponent-by : (k : ℕ) → k ≤ 6 → (0 < k → ltZ x (pos (2 ^ (8 + k))) ≡ false) → (k < 6 → ltZ x (pos (2 ^ (9 + k))) ≡ true) → k ≡ exponent x
+  pub exponent-by : (k : ℕ) → k ≤ 6 → (0 < k → ltZ x (pos (2 ^ (8 + k))) ≡ false) → (k < 6 → ltZ x (pos (2 ^ (9 + k))) ≡ true)
+      → k ≡ exponent x
   unfolding exponent
   exponent-by k h above below =
       sym
@@ -41,7 +42,7 @@ module _ (x : ℤ) where
       (λ j _ g. there (9 + j) (omega (zar, above (omega arith), pow-mono {i = 9 + j} {j = 8 + k} (omega arith))))
       (λ g. gone (9 + k) (below g)))
 
-  -- a word shifted right by four bits or more, and a small number, are far from the limit
+  -- a word shifted right by four bits or more, plus a small number, is a word
   pub sum-in : SFits w16 x → {n m : ℕ} → 4 ≤ n → m ≤ 48 → SFits w16 (x >> n +ℤ pos m)
   sum-in f {n} {m} h k =
       let p = pow-mono {i = 4} {j = n} h in

@@ -21,11 +21,11 @@ use Rattle.law_arithmetic.specs.Shift.{keep-plain, shl-exact}
 use Rattle.law_fields.specs.Amplitudes.{peak-in, peak-covers, top, top-covers, exp-in}
 use Rattle.law_fields.specs.Pulses.{room, code-in}
 
--- exp << 3, whatever xmax
+-- exp << 3, for any xmax
 pub exp-up : (xmax : ℤ) → pos (exponent xmax) << 3 ≡ pos (exponent xmax) *ℤ pos 8
 exp-up xmax = keep-plain {w = w16} {z = pos (exponent xmax) *ℤ pos 8} (omega (zar, exp-in xmax))
 
--- a word that is not larger than xmax stays a word, shifted left by a count that leaves room for all with xmax's code
+-- a word that is not larger than xmax stays a word after a left shift by n, if the largest amplitude with xmax's code does
 pulse-word : (xmax x : ℤ) (n : ℕ) → within (pos 0) (pos 32767) xmax ≡ true → SFits w16 x → leZ (abs x) xmax ≡ true
     → top (natAbs (xmaxc xmax)) * 2 ^ n ≤ 32767 → SFits w16 (x *ℤ pos (2 ^ n))
 pulse-word xmax x n h f g r = ⊎-elim plain extreme (le-or-lt (N x) 32767)
@@ -39,7 +39,7 @@ pulse-word xmax x n h f g r = ⊎-elim plain extreme (le-or-lt (N x) 32767)
         let k : natAbs x * 2 ^ n ≤ t * 2 ^ n = mul-le-mul-right (2 ^ n) (omega (zar, know f, abs-clip x)) in
         omega (zar, scale-is x (2 ^ n), ap (λ (a : ℕ). a * 2 ^ n) (abs-is x))
 
-    -- the least word is larger than any xmax; it occurs only where the count is 0
+    -- the least word, −32768, is larger in size than any xmax; it occurs only where the count is 0
     extreme : 32767 < N x → SFits w16 (x *ℤ pos (2 ^ n))
     extreme l =
         let c = top-covers xmax h in
@@ -49,7 +49,8 @@ pulse-word xmax x n h f g r = ⊎-elim plain extreme (le-or-lt (N x) 32767)
         omega (zar, scale-is x (2 ^ n), ap (λ (a : ℕ). a * 2 ^ n) p, ap (λ (a : ℕ). a * 2 ^ n) q)
 
 -- xM << temp1, where xM[0..12] are words and xmaxc is the code of their xmax: the count is not negative
-pub pulses-up : (xM : List ℤ) → ((k : ℕ) → k < length xM → SFits w16 (xM at k)) → let temp1 = sub (pos 6) (amplitude (xmaxc (peak xM)) .exp) in
+pub pulses-up : (xM : List ℤ) → ((k : ℕ) → k < length xM → SFits w16 (xM at k))
+    → let temp1 = sub (pos 6) (amplitude (xmaxc (peak xM)) .exp) in
     (n : ℕ) × (temp1 ≡ pos n) × ((k : ℕ) → k < length xM → shl w16 (xM at k) temp1 ≡ xM at k *ℤ pos (2 ^ n))
 pulses-up xM f =
     let xmax = peak xM in

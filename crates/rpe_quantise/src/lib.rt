@@ -1,5 +1,5 @@
-// 4.2.15, APCM quantization of the selected RPE sequence: the code of the block amplitude, its exponent and mantissa, and
-// the codes of the thirteen pulses.
+// 4.2.15, APCM quantization of the selected RPE sequence: the code of the block amplitude, its exponent and mantissa,
+// and the codes of the thirteen pulses.
 ghost use mathlib.Core.Path.{_≡_};
 ghost use mathlib.Core.Bool.{true};
 ghost use Prim.Native.Nat.{suc, _*_, _^_, _≤_};
@@ -12,7 +12,7 @@ ghost use Rattle.standard.specs.Arithmetic.{up, add, mult};
 ghost use Rattle.standard.specs.House.{fit};
 ghost use Rattle.standard.specs.Rpe.{exponent, xmaxc, amplitude, xMc};
 
-// The exponent of the block amplitude xmax: the halvings that bring xmax >> 9 to 0, at most 6.
+// The exponent of the block amplitude xmax: how often xmax >> 9 is halved until it is 0, at most 6 times.
 fn exponent(xmax: i16) -> usize
     ensures { λ r. ⌜ r ≡ exponent xmax ⌝ }
 {
@@ -47,7 +47,7 @@ pub struct Amplitude {
     pub mant: usize,
 }
 
-// How often a mantissa, plus 1, is doubled until it is above 8.
+// How often a mantissa plus 1 is doubled until it is above 8.
 fn doublings(mant: usize) -> usize
     ensures { λ r. ⌜ r ≡ first (λ n. leb 9 (suc mant * 2 ^ n)) 4 0 ⌝ }
 {
@@ -64,7 +64,7 @@ fn doublings(mant: usize) -> usize
     }
 }
 
-// Exponent and mantissa of the code of a block amplitude, as both ends decode it.
+// The exponent and the mantissa of a block amplitude's code, as both ends decode it.
 pub fn exp_and_mant(xmaxc: i16) -> Amplitude
     requires { ⌜ fit 6 xmaxc ≡ true ⌝ }
     ensures exp { λ r. ⌜ r .exp ≡ amplitude xmaxc .exp ⌝ }
@@ -80,7 +80,8 @@ pub fn exp_and_mant(xmaxc: i16) -> Amplitude
     }
 }
 
-// The code of one pulse. Both shifts to the right, 15 of mult and 12, are done at once; what is left has three bits and a sign.
+// The code of one pulse. The two right shifts, by 15 in mult and by 12, are done as one. The result has three bits and
+// a sign.
 fn pulse_code(temp1: u16, temp2: i16, xm: i16) -> i16
     requires { ⌜ (temp1 ≤ 10) × (leZ (pos 0) temp2 ≡ true) ⌝ }
     ensures { λ r. ⌜ r ≡ add (shrZ (mult (up w16 xm temp1) temp2) 4096) (pos 4) ⌝ }

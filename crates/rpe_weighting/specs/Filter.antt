@@ -13,11 +13,10 @@ use Rattle.math_integers.specs.Halves.{P, N, zar, know, apart, abs-is}
 use Rattle.math_integers.specs.Sums.{add-is, mul-is, shr-is, mul-in}
 use Rattle.math_lists.specs.Cut.{sum}
 use Rattle.math_lists.specs.Fill.{filled}
-use Rattle.math_lists.specs.Tab.{tab, zip-at, zip-length, zip-take}
+use Rattle.math_lists.specs.Tab.{tab, zip-length, zip-take}
 use Rattle.math_lists.specs.For.{by-entries}
-use Rattle.standard.specs.Arithmetic.{_>>_, clip, low, sub, L-mult, L-add, L-sum}
+use Rattle.standard.specs.Arithmetic.{_>>_, clip, low, L-mult, L-add, L-sum}
 use Rattle.standard.specs.Tables.{_at_, neg, H}
-use Rattle.standard.specs.LongTerm.{residual}
 use Rattle.standard.specs.Rpe.{filtered}
 use Rattle.law_arithmetic.specs.Clip.{clip-is, plus-clip}
 use Rattle.law_arithmetic.specs.Product.{L-mult-in}

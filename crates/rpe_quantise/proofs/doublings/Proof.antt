@@ -1,3 +1,4 @@
+-- One return for each range of the mantissa: k doublings are enough there, and one less is not, so k is the least number.
 use Prim.Native.Nat.{_<_, _≤_}
 use native.Mathlib.Omega.{arith}
 use Rattle.rpe_quantise.specs.Doubling.{doubled-by}

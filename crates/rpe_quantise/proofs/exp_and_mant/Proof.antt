@@ -1,3 +1,5 @@
+-- A code is from 0 to 63, so the exponent is at most 6 and the mantissa at most 15. No step leaves its range, and the result is the
+-- definition's.
 use Prim.Native.Nat.{suc, _+_, _*_, _-_, _/_, _%_, _^_, _<_, _≤_}
 use mathlib.Core.Path.{_≡_, sym, _∙_}
 use mathlib.Core.Logic.{⊎-elim}
@@ -30,7 +32,8 @@ exp-is c =
     ⊎-elim (λ w. rw (le-leb n 15 (w .0 .taken)) (w .1)) (λ w. rw (lt-leb n 15 (w .0 .left)) (w .1)) (c .if1 .came)
 
 -- it leaves a mantissa from 0 to 15
-parts : (c : tie.Joined1) → let n = natAbs (mem w16 (c .before .args .xmaxc)) in (c .if1 .exp ≤ 6) × (8 * c .if1 .exp ≤ n) × (n - 8 * c .if1 .exp ≤ 15)
+parts : (c : tie.Joined1) → let n = natAbs (mem w16 (c .before .args .xmaxc)) in
+    (c .if1 .exp ≤ 6) × (8 * c .if1 .exp ≤ n) × (n - 8 * c .if1 .exp ≤ 15)
 parts c =
     let n = natAbs (mem w16 (c .before .args .xmaxc)) in
     let b = code (c .before) in
@@ -43,7 +46,7 @@ parts c =
 few : (c : tie.After-doublings) → c .doublings .result ≤ 4
 few c = rw (c .doublings .ensures) (first-le _ 4 0)
 
--- 2 to their number is what the code's shift gives, and the product is from 9 to 256
+-- the code's shift gives 2 to the power of that number, and the product is from 9 to 256
 product : (c : tie.After-doublings) → let m = natAbs (mem w16 (c .before .before .before .args .xmaxc)) - 8 * c .before .before .if1 .exp in
     let n = c .doublings .result in ((1 * 2 ^ n) % 18446744073709551616 ≡ 2 ^ n) × (9 ≤ (m + 1) * 2 ^ n) × ((m + 1) * 2 ^ n ≤ 256)
 product c =
@@ -72,7 +75,9 @@ returns : tie.Need-returns
 returns c =
     let j = c .before .before in
     let x = back (j .before .fits .xmaxc) in
-    let (e, m) = amplitude-is (j .before .args .xmaxc) (j .if1 .exp) (c .doublings .result) (rw x at (exp-is j)) (rw x at (c .doublings .ensures)) in
+    let exp = rw x at (exp-is j) in
+    let count = rw x at (c .doublings .ensures) in
+    let (e, m) = amplitude-is (j .before .args .xmaxc) (j .if1 .exp) (c .doublings .result) exp count in
     (back (sub-t12 c) ∙ rw (back (cast-t10 c), back (cast-t11 c)) (sym e), rw (x, product c .0, add-one) (sym m))
 
 pub exp-and-mant-spec : {M : Type 1} → statement M

@@ -1,3 +1,4 @@
+-- One return for each range of xmax: it lies between two powers of 2, and they decide the exponent.
 use native.Mathlib.Omega.{arith}
 use Rattle.math_integers.specs.Halves.{zar, know}
 use Rattle.rpe_quantise.specs.Exponent.{exponent-by}

@@ -1,3 +1,4 @@
+-- The product of two words fits 32 bits. One shift by 27 equals the standard's two shifts, and the result is far below the limits.
 use Prim.Native.Nat.{ℕ, _*_, _%_, _^_}
 use mathlib.Core.Path.{_≡_, sym, ap, _∙_}
 use lib.Dec.{T, leb, leb→le}
@@ -25,7 +26,7 @@ y-is c = up-bits w16 (c .args .xm) (c .args .temp1) (c .fits .xm)
 y-fits : (c : tie.Start) → SFits w16 (y c)
 y-fits c = rw (y-is c) (keep-fits w16 _)
 
--- a product of two words, divided by m, as the code has it
+-- a product of two words, shifted right (that is, divided by m), as the code has it
 module _ {x b : ℤ} (f : SFits w16 x) (g : SFits w16 b) (m : ℕ) (h : T (leb 1048576 m)) where
   abbrev product : ℤ
   product = mem w32 (shrZ (mem w32 (mem w32 x *ℤ mem w32 (mem w16 b))) m)

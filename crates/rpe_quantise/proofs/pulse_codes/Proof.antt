@@ -1,3 +1,4 @@
+-- The shift and the inverse mantissa are the standard's, because the exponent is from −4 to 6. Iteration i stores the code of pulse i.
 use Prim.Native.Nat.{ℕ, _-_, _≤_}
 use mathlib.Core.Path.{_≡_, refl, sym, ap, _∙_}
 use mathlib.Core.List.{map}
@@ -38,7 +39,7 @@ exp-is c =
     let e : c .exp-and-mant .result .exp ≡ amplitude x .exp = rw (back (c .before .fits .code)) at (c .exp-and-mant .ensures .0) in
     (rw e (back (omega (zar, apart (amplitude x .exp)))), b .0, b .1)
 
--- what is left of k without it
+-- k less that exponent
 module _ (c : tie.After-exp-and-mant Inv-loop μ-loop) (k : ℕ) (l : T (leb k 8)) where
   gap-fits : SFits w16 (pos k -ℤ mem w16 (c .exp-and-mant .result .exp))
   gap-fits =
@@ -56,7 +57,8 @@ abbrev temp1 : tie.After-exp-and-mant Inv-loop μ-loop → ℕ
 temp1 c = natAbs (mem w16 (pos 6 -ℤ mem w16 (c .exp-and-mant .result .exp)))
 
 -- it is the standard's, from 0 to 10
-temp1-is : (c : tie.After-exp-and-mant Inv-loop μ-loop) → (temp1 c ≤ 10) × (sub (pos 6) (amplitude (c .before .args .code) .exp) ≡ pos (temp1 c))
+temp1-is : (c : tie.After-exp-and-mant Inv-loop μ-loop)
+    → (temp1 c ≤ 10) × (sub (pos 6) (amplitude (c .before .args .code) .exp) ≡ pos (temp1 c))
 temp1-is c =
     let (e, p, n) = exp-is c in
     rw (back (gap-fits c 6 tt), e) (shift-in (amplitude (c .before .args .code) .exp) p n)

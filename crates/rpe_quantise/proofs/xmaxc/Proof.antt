@@ -1,3 +1,4 @@
+-- The exponent is at most 6, so both terms of the sum are small and the sum fits a word. Then the plain sum is xmaxc.
 use Prim.Native.Nat.{ℕ, _+_, _*_, _%_, _≤_}
 use mathlib.Core.Path.{_≡_, sym, ap₂, _∙_}
 use native.Mathlib.Omega.{arith}
