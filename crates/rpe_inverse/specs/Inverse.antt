@@ -1,4 +1,4 @@
--- 4.2.16: that neither the product nor the sum of a pulse meets a limit, and what xMp is for an exponent from −4 to 6.
+-- 4.2.16: neither the product nor the sum of a pulse saturates; and what xMp is for an exponent from −4 to 6.
 use Prim.Native.Nat.{ℕ, _*_, _-_, _/_, _^_, _<_, _≤_}
 use mathlib.Core.Path.{_≡_, refl, ap}
 use mathlib.Core.Bool.{true}
@@ -24,7 +24,11 @@ use Rattle.law_arithmetic.specs.Product.{mult-r-plain}
 
 -- ---- one pulse
 
--- the words that have only their top four bits
+-- the range of the rounding term temp3
+abbrev pub rounding : ℤ → Type 0
+rounding temp3 = (leZ (pos 0) temp3 ≡ true) × (leZ temp3 (pos 512) ≡ true)
+
+-- the words whose low twelve bits are 0
 tops : every (λ j. leb (P (toZ w16 (j * 4096))) 28672) (tab (λ j. j) 0 16) ≡ true
 unfolding every tab
 tops = refl
@@ -39,7 +43,7 @@ top-in z =
 
 -- a mantissa that is not negative, times such a word
 module _ (a x : ℤ) (f : SFits w16 a) (g : SFits w16 x) (above : leZ (pos 0) a ≡ true) where
-  -- the product meets no clip
+  -- the product does not saturate
   pub product-plain : mult-r a x ≡ (a *ℤ x +ℤ pos 16384) >> 15
   product-plain = mult-r-plain a x f g (omega (zar, know f, know g))
 
@@ -55,7 +59,8 @@ module _ (a x : ℤ) (f : SFits w16 a) (g : SFits w16 x) (above : leZ (pos 0) a 
       let none = ap (λ (k : ℕ). k * N x) n in
       let none′ = ap (λ (k : ℕ). k * P x) n in
       let whole : (P (a *ℤ x) ≤ 939495424) × (N (a *ℤ x) ≤ 1073709056) = omega (arith, mul-is a x) in
-      let shifted : (P (y >> 15) ≤ 28671) × (N (y >> 15) ≤ 32767) = omega (arith, add-is (a *ℤ x) (pos 16384), shr-is y 32768 (omega arith)) in
+      let shifted : (P (y >> 15) ≤ 28671) × (N (y >> 15) ≤ 32767) =
+      omega (arith, add-is (a *ℤ x) (pos 16384), shr-is y 32768 (omega arith)) in
       rw product-plain (omega (zar, add-is (y >> 15) b, apart b))
 
 -- ---- the thirteen
@@ -64,12 +69,12 @@ module _ (a x : ℤ) (f : SFits w16 a) (g : SFits w16 x) (above : leZ (pos 0) a 
 abbrev pub pulse : ℤ → ℕ → ℤ → ℤ → ℤ
 pulse temp1 temp2 temp3 xMc = add (mult-r temp1 (sub (xMc << 1) (pos 7) << 12)) temp3 >> temp2
 
--- 1 << (temp2 − 1), by the shift
+-- 1 << (temp2 − 1), for each temp2 from 0 to 10
 halves : tab (λ t. shl w16 (pos 1) (sub (pos t) (pos 1))) 0 11 ≡ tab (λ t. pos (2 ^ t / 2)) 0 11
 unfolding tab shl minus clip keep modulo
 halves = refl
 
--- what the code shifts 1 to, where there is something to round
+-- the code's shift of 1, where temp2 is not 0
 ups : tab (λ t. pos 1 << (t - 1)) 1 10 ≡ tab (λ t. pos (2 ^ t / 2)) 1 10
 unfolding tab keep modulo
 ups = refl
@@ -77,8 +82,9 @@ ups = refl
 pub up-half : (t : ℕ) → 0 < t → t ≤ 10 → pos 1 << (t - 1) ≡ pos (2 ^ t / 2)
 up-half t l h = tab-each (λ t. pos 1 << (t - 1)) (λ t. pos (2 ^ t / 2)) 10 1 ups t (omega arith) (omega arith)
 
--- so the pulses are these
+-- so, for an exponent whose shift is t, the pulses are these
 pub xMp-is : (a : Amplitude) (xMc : List ℤ) (t : ℕ) → sub (pos 6) (a .exp) ≡ pos t → t ≤ 10
     → xMp a xMc ≡ map (pulse (FAC at a .mant) t (pos (2 ^ t / 2))) xMc
 unfolding xMp shr
-xMp-is a xMc t e h = rw (e, tab-each (λ t. shl w16 (pos 1) (sub (pos t) (pos 1))) (λ t. pos (2 ^ t / 2)) 11 0 halves t (omega arith) (omega arith))
+xMp-is a xMc t e h =
+    rw (e, tab-each (λ t. shl w16 (pos 1) (sub (pos t) (pos 1))) (λ t. pos (2 ^ t / 2)) 11 0 halves t (omega arith) (omega arith))

@@ -1,3 +1,3 @@
--- The laws of 4.2.16: what a pulse comes to, and its left shifts.
+-- The laws of 4.2.16: what a pulse is, and its left shifts.
 pub mod Inverse
 pub mod Shifts

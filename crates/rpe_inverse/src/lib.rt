@@ -1,17 +1,19 @@
-// 4.2.16, 4.2.17: from a block amplitude and its pulses back to the samples on the grid, as both ends do it.
+// 4.2.16, 4.2.17: from a block amplitude and its pulses' codes back to the samples on the grid, as both ends do it.
 ghost use mathlib.Core.Path.{_≡_};
 ghost use mathlib.Core.Bool.{true};
 ghost use Prim.Native.Nat.{_^_, _≤_};
 ghost use lib.IntN.{pos};
 ghost use lib.Signed.{leZ, shrZ};
-ghost use Rattle.standard.specs.Arithmetic.{up, add, sub, mult-r};
 ghost use mir.Syntax.{w16};
+ghost use Rattle.standard.specs.Arithmetic.{up, add, sub, mult-r};
 ghost use Rattle.standard.specs.House.{fit};
 ghost use Rattle.standard.specs.Rpe.{amplitude, xMp, ep};
+ghost use Rattle.rpe_inverse.specs.Inverse.{rounding};
 
-// 4.2.16: one pulse. A mantissa is not negative and the rounding term is small, so that neither the product nor the sum meets a limit.
+// 4.2.16: one pulse. The mantissa is not negative and the rounding term is small, so neither the product nor the sum
+// saturates.
 fn pulse(temp1: i16, temp2: u16, temp3: i16, xmc: i16) -> i16
-    requires { ⌜ (leZ (pos 0) temp1 ≡ true) × ((temp2 ≤ 10) × ((leZ (pos 0) temp3 ≡ true) × (leZ temp3 (pos 512) ≡ true))) ⌝ }
+    requires { ⌜ (leZ (pos 0) temp1 ≡ true) × ((temp2 ≤ 10) × rounding temp3) ⌝ }
     ensures { λ r. ⌜ r ≡ shrZ (add (mult-r temp1 (up w16 (sub (up w16 xmc 1) (pos 7)) 12)) temp3) (2 ^ temp2) ⌝ }
 {
     let x = op_words::sub(xmc << 1, 7) << 12;
@@ -19,7 +21,7 @@ fn pulse(temp1: i16, temp2: u16, temp3: i16, xmc: i16) -> i16
     ((temp + temp3 as i32) >> temp2) as i16
 }
 
-// 4.2.16: the thirteen pulses with their amplitude. At exponent 6 there is nothing to round.
+// 4.2.16: the thirteen pulses, scaled by their block amplitude. At exponent 6 nothing is rounded.
 pub fn inverse(xmaxc: i16, xmc: [i16; 13]) -> [i16; 13]
     requires { ⌜ fit 6 xmaxc ≡ true ⌝ }
     ensures { λ r. ⌜ r ≡ xMp (amplitude xmaxc) xmc ⌝ }
@@ -35,7 +37,7 @@ pub fn inverse(xmaxc: i16, xmc: [i16; 13]) -> [i16; 13]
     xmp
 }
 
-// 4.2.17: each pulse in its place, zeros between.
+// 4.2.17: each pulse at its grid position, zeros between.
 pub fn positioned(mc: usize, xmp: [i16; 13]) -> [i16; 40]
     requires { ⌜ mc ≤ 3 ⌝ }
     ensures { λ r. ⌜ r ≡ ep mc xmp ⌝ }

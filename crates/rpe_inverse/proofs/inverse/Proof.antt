@@ -1,3 +1,4 @@
+-- The mantissa, the shift and the rounding term are the standard's, because the exponent is from −4 to 6. Iteration i stores pulse i.
 use Prim.Native.Nat.{ℕ, _-_, _/_, _^_, _≤_}
 use mathlib.Core.Path.{_≡_, refl, sym, ap, _∙_}
 use mathlib.Core.List.{map}
@@ -25,14 +26,16 @@ use Rattle.rpe_inverse.proofs.inverse.Statement.{statement}
 use Rattle.rpe_inverse.proofs.inverse.Tie as tie
 
 abbrev Inv-loop : tie.InvT-loop
-Inv-loop xmaxc xmc temp1 temp2 temp3 xmp₀ i₀ xmp i = (i ≤ 13) × (xmp ≡ filled i (map (pulse (toZ w16 temp1) temp2 (toZ w16 temp3)) xmc) xmp₀)
+Inv-loop xmaxc xmc temp1 temp2 temp3 xmp₀ i₀ xmp i =
+    (i ≤ 13) × (xmp ≡ filled i (map (pulse (toZ w16 temp1) temp2 (toZ w16 temp3)) xmc) xmp₀)
 
 abbrev μ-loop : tie.MeasureT-loop
 μ-loop xmaxc xmc temp1 temp2 temp3 xmp₀ i₀ xmp i = 13 - i
 
 -- the exponent that came back, from −4 to 6
 exp-is : (c : tie.After-struct-told Inv-loop μ-loop) → let k = c .before .before .before in
-    (mem w16 (k .exp-and-mant .result .exp) ≡ amplitude (k .before .args .xmaxc) .exp) × SFits w16 (pos 6 -ℤ amplitude (k .before .args .xmaxc) .exp)
+    let e = amplitude (k .before .args .xmaxc) .exp in
+    (mem w16 (k .exp-and-mant .result .exp) ≡ e) × SFits w16 (pos 6 -ℤ e)
 exp-is c =
     let k = c .before .before .before in
     let x = k .before .args .xmaxc in
@@ -54,19 +57,22 @@ temp2-is c =
     rw (e, back f) (shift-in (amplitude (s .args .xmaxc) .exp) p n)
 
 -- so is the mantissa
-temp1-is : (c : tie.After-mantissa-fac Inv-loop μ-loop) → mem w16 (c .mantissa-fac .result) ≡ FAC at amplitude (c .before .before .args .xmaxc) .mant
+temp1-is : (c : tie.After-mantissa-fac Inv-loop μ-loop) → let s = c .before .before in
+    mem w16 (c .mantissa-fac .result) ≡ FAC at amplitude (s .args .xmaxc) .mant
 temp1-is c =
     let s = c .before .before in
-    res (c .mantissa-fac) ∙ (c .mantissa-fac .ensures ∙ ap (λ (m : ℕ). FAC at m) (rw (back (s .fits .xmaxc)) at (c .before .exp-and-mant .ensures .1)))
+    let mant = rw (back (s .fits .xmaxc)) at (c .before .exp-and-mant .ensures .1) in
+    res (c .mantissa-fac) ∙ (c .mantissa-fac .ensures ∙ ap (λ (m : ℕ). FAC at m) mant)
 
 -- and the rounding term
 temp3-is : (c : tie.Joined1 Inv-loop μ-loop) → toZ w16 (c .if1 .temp3) ≡ pos (2 ^ temp2 (c .before) / 2)
 temp3-is c =
+    let t = temp2 (c .before) in
     ⊎-elim
-    (λ w. let z : temp2 (c .before) ≡ 0 = w .0 .taken in rw (z, w .1) refl)
+    (λ w. let z : t ≡ 0 = w .0 .taken in rw (z, w .1) refl)
     (λ w.
-    let z : ¬ (temp2 (c .before) ≡ 0) = w .0 .left in
-    rw (w .1) (up-bits w16 (pos 1) (temp2 (c .before) - 1) (search needs) ∙ up-half (temp2 (c .before)) (omega arith) (temp2-is (c .before) .0)))
+    let z : ¬ (t ≡ 0) = w .0 .left in
+    rw (w .1) (up-bits w16 (pos 1) (t - 1) (search needs) ∙ up-half t (omega arith) (temp2-is (c .before) .0)))
     (c .if1 .came)
 
 cast-temp2 : tie.Need-cast-temp2 Inv-loop μ-loop

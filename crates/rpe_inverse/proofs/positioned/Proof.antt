@@ -1,3 +1,4 @@
+-- The array of zeros is what the first loop of 4.2.17 leaves. Iteration i is iteration i of the second loop, so the result is ep.
 use Prim.Native.Nat.{_-_, _≤_}
 use mathlib.Core.Path.{_≡_, refl, sym, ap, _∙_}
 use native.Mathlib.Omega.{arith}
@@ -10,7 +11,7 @@ use Rattle.law_loops.specs.Positions.{ep-zero, ep-turn, ep-loops}
 use Rattle.rpe_inverse.proofs.positioned.Statement.{statement}
 use Rattle.rpe_inverse.proofs.positioned.Tie as tie
 
--- the array before the loop, as 001's first loop leaves it
+-- the array before the loop, as the standard's first loop leaves it
 zeros : replicate 40 (pos 0) ≡ steps ep-zero 40 0 (replicate 40 (pos 0))
 unfolding steps ep-zero
 zeros = refl
@@ -26,7 +27,8 @@ unfolding ep-turn
 loop-again c =
     let b = c .before .before in
     let s = b .before in
-    (search needs, rw (back (sfits-of (c .ep .given))) (sym (steps-next (ep-turn (s .args .mc) (s .args .t2)) 13 (b .loop .i) (b .loop .ep) (omega arith)) ∙ b .loop .inv .1))
+    let next = steps-next (ep-turn (s .args .mc) (s .args .t2)) 13 (b .loop .i) (b .loop .ep) (omega arith) in
+    (search needs, rw (back (sfits-of (c .ep .given))) (sym next ∙ b .loop .inv .1))
 
 returns : tie.Need-returns Inv-loop μ-loop
 returns c =

@@ -1,3 +1,5 @@
+-- The mantissa is not negative and the pulse is at most 28672, so neither the product nor the sum saturates. The plain operations give
+-- what mult_r and add give.
 use Prim.Native.Nat.{_*_, _%_, _^_, _≤_}
 use mathlib.Core.Path.{_≡_, sym, ap, _∙_}
 use lib.IntN.{ℤ, pos, _+ℤ_, _*ℤ_}
@@ -38,7 +40,8 @@ temp c = mem w32 (mem w32 (mem w32 (mem w32 (mem w16 (c .before .args .temp1)) *
 temp-is : (c : tie.After-sub) → temp c ≡ mult-r (c .before .args .temp1) (x c)
 temp-is c =
     let s = c .before in
-    rounded (s .args .temp1) (x c) (s .fits .temp1) (x-fits c) ∙ sym (product-plain (s .args .temp1) (x c) (s .fits .temp1) (x-fits c) (s .pre .0))
+    let f = s .fits .temp1 in
+    rounded (s .args .temp1) (x c) f (x-fits c) ∙ sym (product-plain (s .args .temp1) (x c) f (x-fits c) (s .pre .0))
 
 -- and its sum with the rounding term is a word
 sum-in : (c : tie.After-sub) → SFits w16 (mult-r (c .before .args .temp1) (x c) +ℤ c .before .args .temp3)
@@ -47,7 +50,7 @@ sum-in c =
     let top : P (x c) ≤ 28672 = rw (x-is c) (top-in (sub (s .args .xmc << 1) (pos 7))) in
     total-fits (s .args .temp1) (x c) (s .fits .temp1) (x-fits c) (s .pre .0) (s .args .temp3) top (s .pre .1 .1 .0) (s .pre .1 .1 .1)
 
--- so it meets no limit
+-- so it does not saturate
 sum-is : (c : tie.After-sub) → let s = c .before in
     mem w32 (temp c +ℤ mem w32 (mem w16 (s .args .temp3))) ≡ add (mult-r (s .args .temp1) (x c)) (s .args .temp3)
 sum-is c =
