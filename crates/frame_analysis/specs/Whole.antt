@@ -9,7 +9,7 @@ use Rattle.standard.specs.ShortTerm.{ratios, coefficients, analysed}
 use Rattle.standard.specs.Coder.{Coder, analysis}
 use Rattle.frame_analysis.specs.declared.Filters.{Filters}
 
--- 4.2.4: the nine sums of the samples, once they are scaled
+-- 4.2.4: the nine sums of the scaled samples
 abbrev pub sums : List ℤ → List ℤ
 sums s = L-ACF (scaled (scalauto s) s)
 
@@ -17,7 +17,7 @@ sums s = L-ACF (scaled (scalauto s) s)
 abbrev pub back-again : List ℤ → List ℤ
 back-again s = rescaled (scalauto s) (scaled (scalauto s) s)
 
--- what the filters' state stands for. The analysis neither reads nor changes the history
+-- the definition's state for the filters' state. The analysis neither reads nor changes the history, so dp is empty here
 abbrev pub coder-of : Filters → Coder
 coder-of m = record { z1 = m .z1; L-z2 = m .«l_z2»; mp = m .mp; LARpp = m .larpp; u = m .u; dp = [] }
 

@@ -14,7 +14,7 @@ ghost use Rattle.law_arithmetic.specs.Within.{word};
 ghost use Rattle.lpc_reflection.specs.Promise.{ended};
 ghost use Rattle.frame_analysis.specs.Whole.{sums, back-again, coder-of};
 
-// What the filters keep for the next frame; larpp are the decoded ratios, u the cells of the lattice.
+// What the filters keep for the next frame: larpp are the decoded ratios, u the cells of the lattice.
 pub struct Filters {
     pub z1: i16,
     pub l_z2: i32,
@@ -23,7 +23,7 @@ pub struct Filters {
     pub u: [i16; 8],
 }
 
-// What is made of a frame, beside d.
+// The results of a frame, except d.
 pub struct Analysed {
     pub next: Filters,
     pub larc: [i16; 8],
@@ -36,14 +36,14 @@ struct Ratios {
     ending: Ending,
 }
 
-// Room for 160 samples.
+// A buffer for 160 samples.
 fn room() -> [i16; 160]
     ensures { λ r. ⌜ r ≡ replicate 160 (pos 0) ⌝ }
 {
     [0; 160]
 }
 
-// 4.2.4 to 4.2.7. The samples are scaled for the sums, and scaled back.
+// 4.2.4 to 4.2.7. The samples are scaled for the sums, and scaled back afterwards.
 fn measured(s: &mut [i16]) -> Ratios
     requires { ⌜ (length (now s) ≡ 160) × (every word (now s) ≡ true) ⌝ }
     ensures larc { λ t. ⌜ t .larc ≡ ratio-codes (r (sums (now (s .entry)))) ⌝ }
@@ -62,7 +62,7 @@ fn measured(s: &mut [i16]) -> Ratios
     }
 }
 
-// A frame, from a sound state. The buffer signal holds s from 4.2.3 on, and d from 4.2.10 on.
+// A frame, from a sound state. The buffer signal holds s after 4.2.3, and d after 4.2.10.
 pub fn frame(m: Filters, sop: &[i16], signal: &mut [i16]) -> Analysed
     requires { ⌜ (length (now sop) ≡ 160) × ((length (now signal) ≡ 160) × (sound-coder (coder-of m) ≡ true)) ⌝ }
     ensures next { λ t. ⌜ coder-of (t .next) ≡ analysis (coder-of m) (now (sop .entry)) .next ⌝ }

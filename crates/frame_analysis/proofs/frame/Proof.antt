@@ -1,3 +1,4 @@
+-- The stages in the definition's order. The result of each is the definition's, because the result of the stage before is.
 use Prim.Native.Nat.{_≤_}
 use mathlib.Core.Path.{_≡_, sym, ap, ap₂, _∙_}
 use mathlib.Core.List.{List, _++_, zip}
@@ -54,7 +55,8 @@ offset-requires : tie.Need-offset-requires
 unfolding kept sound-coder
 offset-requires c κs =
     let s = c .before .before .before .before .before .before in
-    (ap length (ap (take 160) (c .before .before .room .ensures)) ∙ sym (s .pre .0), rw (back (z1-fits s), back (l-z2-fits s)) (s .pre .1 .1))
+    let room = ap length (ap (take 160) (c .before .before .room .ensures)) in
+    (room ∙ sym (s .pre .0), rw (back (z1-fits s), back (l-z2-fits s)) (s .pre .1 .1))
 
 -- 4.2.1, 4.2.2
 module _ (t : tie.After-offset) where
@@ -69,7 +71,7 @@ module _ (t : tie.After-offset) where
   unfolding kept
   offset-samples = rw (back (z1-fits start), back (l-z2-fits start)) at (t .offset .ensures .1)
 
-  -- the two fit their types, and this is the state as it is kept
+  -- the two numbers fit their types, so the state that is kept is the definition's
   z1-after : SFits w16 (t .offset .result .z1)
   z1-after = search needs
 
@@ -81,7 +83,7 @@ module _ (t : tie.After-offset) where
   unfolding kept
   offset-kept = rw (back z1-after, back l-z2-after) offset-state
 
-  -- the samples as the next stage reads them, in the front of the room that was lent
+  -- the samples as the next stage reads them, at the start of the buffer
   sof-back : (rest : List ℤ) → take 160 (t .offset .last .1 .1 .0 ++ rest) ≡ whole.sof (c-of start) (sop-of start) .1
   sof-back rest = take-at _ rest 160 (ap length offset-samples ∙ sof-length start) ∙ offset-samples
 
@@ -148,7 +150,8 @@ module _ (n : tie.After-filtered) where
 
   u-is : n .filtered .result ≡ whole.d (c-of at-start) (sop-of at-start) .0
   u-is =
-      let given : n .filtered .result ≡ lattice (n .before .before .ratios .result) (coded .measured .last .0) .0 = n .filtered .ensures .0 in
+      let new = n .before .before .ratios .result in
+      let given : n .filtered .result ≡ lattice new (coded .measured .last .0) .0 = n .filtered .ensures .0 in
       given ∙ ap₂ (λ (new xs : List ℤ). lattice new xs .0) new-is (back-is coded)
 
   d-is : n .filtered .last .1 .1 .1 .0 ≡ whole.d (c-of at-start) (sop-of at-start) .1

@@ -1,3 +1,5 @@
+-- The scaling factor, the scaled samples, the nine sums, the codes: each is the definition's by the one before. Scaling back takes the
+-- same factor.
 use mathlib.Core.Path.{_≡_, ap, ap₂, _∙_}
 use mathlib.Core.List.{List}
 use lib.IntN.{ℤ}
@@ -12,7 +14,7 @@ use Rattle.frame_analysis.specs.Whole.{sums}
 use Rattle.frame_analysis.proofs.measured.Statement.{statement}
 use Rattle.frame_analysis.proofs.measured.Tie as tie
 
--- the samples that it is lent
+-- the samples in the buffer at the start
 abbrev s-of : tie.Start → List ℤ
 s-of s = s .args .s .now
 
@@ -50,7 +52,8 @@ returns c =
     let t = a .before .before .before in
     let n = t .before .before in
     let scale = res (n .scalauto) ∙ scale-is n in
-    let given : b .rescaled .last .1 .0 ≡ rescaled (toZ w16 (ofZ w16 (n .scalauto .result))) (t .scaled .last .1 .0) = b .rescaled .ensures in (
+    let factor = toZ w16 (ofZ w16 (n .scalauto .result)) in
+    let given : b .rescaled .last .1 .0 ≡ rescaled factor (t .scaled .last .1 .0) = b .rescaled .ensures in (
       c .ratio-codes .ensures ∙ ap ratio-codes (f .reflection-coefficients .ensures .0 ∙ ap r (sums-are a)),
       (
         f .reflection-coefficients .ensures .1 ∙ ap ending (sums-are a),
