@@ -24,7 +24,7 @@ pulse-codes x = xMc (amplitude (block-code x)) (grid (Mc x) x)
 unfoldable pub added : List ℤ → List ℤ → List ℤ
 added dp d = let f = sub-coded dp d .codes in reconstructed (natAbs (f .Nc)) f dp
 
--- the two above, of a list that begins with dp[−120..−1]: what the definition makes of the sub-frame, and the history with the new samples
+-- for a list that begins with dp[−120..−1]: the definition's result for the sub-frame, and the history with the new samples
 abbrev pub made : List ℤ → List ℤ → Subcoded
 made dp d = sub-coded (take 120 dp) d
 

@@ -1,17 +1,17 @@
-// 4.2.11 to 4.2.18: one sub-frame, from 40 samples of d to its 17 codewords and to what it adds to the history.
+// 4.2.11 to 4.2.18: one sub-frame, from 40 samples of d to its 17 codewords and to the samples that it adds to the
+// history.
 use long_search::Search;
 ghost use mathlib.Core.Path.{_≡_};
-ghost use mathlib.Core.List.{_∷_, _++_};
+ghost use mathlib.Core.List.{_∷_};
 ghost use lib.IntN.{pos};
-ghost use lib.ListN.{length, take};
+ghost use lib.ListN.{length};
 ghost use lib.Signed.{ltZ};
 ghost use Rattle.standard.specs.Frame.{sub-words};
 ghost use Rattle.standard.specs.LongTerm.{Nc};
 ghost use Rattle.standard.specs.Rpe.{Mc};
-ghost use Rattle.standard.specs.Coder.{sub-coded};
 ghost use Rattle.frame_subframe.specs.Whole.{block-code, pulse-codes, made, extended};
 
-// The 17 codewords in their places.
+// Stores the 17 codewords in order.
 fn written(lag: i16, bc: i16, mc: i16, xmaxc: i16, xmc: [i16; 13], c: &mut [i16])
     requires { ⌜ length (now c) ≡ 17 ⌝ }
     ensures { λ _. ⌜ now (c .exit) ≡ lag ∷ bc ∷ mc ∷ xmaxc ∷ xmc ⌝ }
@@ -47,8 +47,8 @@ fn selected(x: [i16; 40]) -> Choice
     }
 }
 
-// One sub-frame. dp holds the last 120 samples of the history, and has room for the 40 that the sub-frame adds. c is the
-// buffer for its 17 codewords.
+// One sub-frame. dp holds the last 120 samples of the history, and after them 40 entries for what the sub-frame adds.
+// c is the buffer for its 17 codewords.
 pub fn sub_coded(d: &[i16], dp: &mut [i16], c: &mut [i16]) -> Search
     requires { ⌜ (length (now d) ≡ 40) × ((length (now dp) ≡ 160) × (length (now c) ≡ 17)) ⌝ }
     ensures lag { λ r. ⌜ r .lag ≡ Nc (made (now (dp .entry)) (now (d .entry)) .search) ⌝ }

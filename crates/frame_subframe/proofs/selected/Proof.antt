@@ -1,3 +1,5 @@
+-- The stages in the definition's order: the selected grid, its largest size, that size's code, the codes of the pulses. Each is the
+-- definition's by the one before.
 use Prim.Native.Nat.{ℕ}
 use mathlib.Core.Path.{_≡_, ap, _∙_}
 use native.Mathlib.Omega.{arith}

@@ -1,5 +1,5 @@
--- The stages in the definition's order: each answer is the definition's by that of the stage before, from the lag search to the new
--- samples of the history.
+-- The stages in the definition's order, from the lag search to the new samples of the history. The result of each is the definition's,
+-- because the result of the stage before is.
 use Prim.Native.Nat.{ℕ, _≤_}
 use mathlib.Core.Path.{_≡_, sym, ap, ap₂, _∙_}
 use mathlib.Core.List.{List, _∷_, _++_, zipWith}
@@ -25,14 +25,14 @@ use Rattle.frame_subframe.specs.Whole.{search-is, gain-range, codes-are,
 use Rattle.frame_subframe.proofs.sub_coded.Statement.{statement}
 use Rattle.frame_subframe.proofs.sub_coded.Tie as tie
 
--- the history and the samples that a sub-frame is handed
+-- the history and the samples that a sub-frame gets
 abbrev dp-of : tie.Start → List ℤ
 dp-of s = take 120 (s .args .dp .now)
 
 abbrev d-of : tie.Start → List ℤ
 d-of s = s .args .d .now
 
--- the history has room for 40 more
+-- the buffer of the history has 40 entries more
 length-kept : (s : tie.Start) → 160 ≤ length (s .args .dp .now)
 length-kept s = omega (arith, s .pre .1 .0)
 
@@ -124,7 +124,7 @@ module _ (k : tie.After-selected) where
   code-word : SFits w16 (k .selected .result .xmaxc)
   code-word = search needs
 
-  -- the three that are made words, together: any of them may stand in a cast
+  -- the three that the code casts to words, together
   words-fit : let f = found .lag-and-gain .result in
       SFits w16 (pos (f .search .lag)) × SFits w16 (pos (f .bc)) × SFits w16 (pos (k .selected .result .mc))
   words-fit = (lag-word, gain-word, grid-word)
@@ -160,7 +160,7 @@ positioned-requires c κs = let k = chosen (c .before .before) in omega (arith, 
 part-reconstructed-end : tie.Need-part-reconstructed-end
 part-reconstructed-end c = let h = length-kept (start (found (chosen (c .before .before .before)))) in search needs
 
--- 4.2.16 to 4.2.18: the pulses that went through the quantiser, added to the estimate
+-- 4.2.16 to 4.2.18: the decoded pulses, added to the estimate
 module _ (r : tie.After-reconstructed) where
   abbrev placed : tie.After-positioned
   placed = r .before .before
@@ -174,7 +174,8 @@ module _ (r : tie.After-reconstructed) where
   new-are : r .reconstructed .last .1 .1 .0 ≡ added (dp (found code)) (d (found code))
   new-are =
       let known = estimated (filtering code) in
-      let given : r .reconstructed .last .1 .1 .0 ≡ zipWith add (placed .positioned .result) (known .estimate .result) = r .reconstructed .ensures in
+      let new = r .reconstructed .last .1 .1 .0 in
+      let given : new ≡ zipWith add (placed .positioned .result) (known .estimate .result) = r .reconstructed .ensures in
       let pulses = rw (back (code-word code)) at (placed .before .inverse .ensures) in
       given
       ∙ added-is (dp (found code)) (d (found code)) (mc-is code) (xmaxc-is code) (xmc-is code) pulses (placed .positioned .ensures)

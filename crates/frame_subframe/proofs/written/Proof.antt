@@ -1,3 +1,4 @@
+-- The first four codewords are stored one by one, then iteration i stores pulse i at 4 + i. After 13 iterations all 17 are there.
 use Prim.Native.Nat.{ℕ, _+_, _-_, _≤_}
 use mathlib.Core.Path.{_≡_, refl, sym, _∙_}
 use mathlib.Core.List.{List, [], _∷_}
@@ -41,7 +42,7 @@ four-kept c l b m x xmc h = rw (four-set c l b m x h) refl
 loop-holds : tie.Need-loop-holds Inv-loop μ-loop
 loop-holds c = (omega arith, simp length-set (c .pre), four-kept (c .args .c .now) _ _ _ _ (c .args .t5) (omega (arith, c .pre)))
 
--- a turn stores the next pulse
+-- an iteration stores the next pulse
 module _ (c : tie.After-c Inv-loop μ-loop) where
   abbrev s : tie.Start Inv-loop μ-loop
   s = c .before .before .before
@@ -69,7 +70,7 @@ loop-again c =
     let pulse = back (stored c) ∙ sym (getD-append-add first (s c .args .t5) (i c) (pos 0)) in
     (omega arith, b, rw n at (fill-next _ _ (4 + i c) e (pos 0) (omega (arith, pulses c)) (omega arith) pulse))
 
--- after the last turn all are there
+-- after the last iteration all are there
 ends : (c : tie.After-loop Inv-loop μ-loop) → let s = c .before .before in
     c .before .loop .c ≡ target (s .args .lag) (s .args .bc) (s .args .mc) (s .args .xmaxc) (s .args .t5)
 ends c =
