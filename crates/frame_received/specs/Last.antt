@@ -1,4 +1,4 @@
--- 4.3.2: the history after any number of sub-frames is the last 120 of what stood there and what they have added.
+-- 4.3.2: the history after any number of sub-frames is the last 120 samples of the first history and what the sub-frames have added.
 use Prim.Native.Nat.{_+_, _*_}
 use mathlib.Core.Path.{_≡_, refl, _∙_}
 use mathlib.Core.Bool.{true}

@@ -1,4 +1,4 @@
--- 4.3.1, 4.3.2: the fields of a received sub-frame, and what its steps come to one after the other.
+-- 4.3.1, 4.3.2: the fields of a received sub-frame, and that its steps, one after the other, give what the definition gives.
 use Prim.Native.Nat.{ℕ, _<_}
 use mathlib.Core.Path.{_≡_, refl, _∙_}
 use mathlib.Core.Bool.{true}
@@ -22,13 +22,13 @@ use Rattle.law_fields.specs.Fit.{fit-is}
 use Rattle.law_fields.specs.Valid.{low-bits, low-bits-fit}
 use Rattle.frame_received.specs.Received.{sub-frame, sub-reconstructed}
 
--- each field is not wider than it may be
+-- each field fits its width
 pub field-fit : (c : List ℤ) (i : ℕ) → length c ≡ 17 → i < 17 → fit (getD sub-widths i 0) (zipWith low-bits sub-widths c at i) ≡ true
 unfolding sub-widths
 field-fit c i h l =
     rw (zip-at low-bits sub-widths c i 0 (pos 0) (pos 0) (omega arith) (omega arith)) (low-bits-fit (getD sub-widths i 0) (c at i))
 
--- a number that fits a field is a place
+-- a number that fits a field is an index: it is not negative
 pub fit-place : (w : ℕ) (z : ℤ) → fit w z ≡ true → P z ≡ natAbs z
 fit-place w z h = omega (arith, fit-is w z h, abs-is z)
 
@@ -39,7 +39,7 @@ lag-place z h =
     let e : P z ≡ natAbs z = omega (zar, abs-is z, apart z) in
     (e, rw e (range-lag z h))
 
--- the steps of a sub-frame: its fields, the lag, the pulses, their places, the estimate, the sum
+-- the steps of a sub-frame: its fields, the lag, the pulses, their positions, the estimate, the sum
 pub sub-steps : (drp : List ℤ) (nrp : ℤ) (c v xmp e d y : List ℤ) (lag : ℤ)
     → length c ≡ 17 → is-lag nrp ≡ true → v ≡ zipWith low-bits sub-widths c
     → lag ≡ Nr nrp (v at 0) → xmp ≡ xMp (amplitude (v at 3)) (drop 4 v) → e ≡ ep (P (v at 2)) xmp → d ≡ dpp (P lag) (P (v at 1)) drp

@@ -1,4 +1,4 @@
--- 4.3.2: the sub-frames of a frame, one after the other on one list: what stands there after some of them, and after one more.
+-- 4.3.2: the sub-frames of a frame, one after the other in one list: what the list holds after some of them, and after one more.
 use Prim.Native.Nat.{ℕ, _+_, _*_, _≤_}
 use mathlib.Core.Path.{_≡_, refl, sym, ap, ap₂, _∙_}
 use mathlib.Core.Bool.{true}
@@ -29,7 +29,7 @@ module _ (h₀ : List ℤ) (nrp : ℤ) where
   abbrev pub there : List Subframe → List ℤ
   there fs = take 120 h₀ ++ flatten (run sub-decoded begun fs .1)
 
-  -- after the sub-frames fs: they stand after the history, the rest is as it was, and n is the lag in use
+  -- after the sub-frames fs: their samples stand after the history, the rest of the list is as it was, and n is the lag in use
   pub record After (fs : List Subframe) (h : List ℤ) (n : ℤ) : Type 0 where
     pub list : h ≡ there fs ++ drop (length fs * 40 + 120) h₀
     pub lag : n ≡ run sub-decoded begun fs .0 .1
@@ -44,7 +44,8 @@ module _ (h₀ : List ℤ) (nrp : ℤ) where
   unfolding run flatten
   there-next fs f = rw (run-append sub-decoded begun fs (f ∷ []), flatten-last, append-assoc)
 
-  lag-next : (fs : List Subframe) (f : Subframe) → sub-decoded (run sub-decoded begun fs .0) f .0 .1 ≡ run sub-decoded begun (fs ++ (f ∷ [])) .0 .1
+  lag-next : (fs : List Subframe) (f : Subframe)
+      → sub-decoded (run sub-decoded begun fs .0) f .0 .1 ≡ run sub-decoded begun (fs ++ (f ∷ [])) .0 .1
   unfolding run
   lag-next fs f = rw (run-append sub-decoded begun fs (f ∷ []))
 
@@ -60,7 +61,7 @@ module _ (h₀ : List ℤ) (nrp : ℤ) where
       there-length : length (there fs) ≡ length fs * 40 + 120
       there-length = rw length-append (omega (arith, sub-decodes-samples begun fs start (t .full), start .drp))
 
-      -- what is lent to the next sub-frame starts with the history that it reads
+      -- the part passed to the next sub-frame starts with the history that it reads
       pub after-history : take 120 (take 160 (drop (length fs * 40) h)) ≡ run sub-decoded begun fs .0 .0
       after-history = rw (t .list) (window (there fs) _ (length fs * 40) 120 40 there-length ∙ sym (last-is begun fs start (t .full)))
 
@@ -71,7 +72,8 @@ module _ (h₀ : List ℤ) (nrp : ℤ) where
       unfolding every
       after-next f d y m e ed em ey =
           let a = length fs * 40 in
-          let s : _≡_ {A = List ℤ × ℤ} (d, n) (run sub-decoded begun fs .0) = ap₂ (λ (d : List ℤ) (n : ℤ). (d, n)) (ed ∙ after-history) (t .lag) in
+          let s : _≡_ {A = List ℤ × ℤ} (d, n) (run sub-decoded begun fs .0) =
+          ap₂ (λ (d : List ℤ) (n : ℤ). (d, n)) (ed ∙ after-history) (t .lag) in
           let new = sub-decoded (run sub-decoded begun fs .0) f .1 in
           let w : take 120 (take 160 (drop a h)) ≡ drop a (there fs) = rw (t .list) (window (there fs) _ a 120 40 there-length) in
           let joined : y ≡ drop a (there fs) ++ new = ey ∙ ap₂ _++_ (ed ∙ w) (ap (λ (q : List ℤ × ℤ). sub-decoded q f .1) s) in
@@ -84,6 +86,6 @@ module _ (h₀ : List ℤ) (nrp : ℤ) where
             full = rw (every-append full fs (f ∷ []), t .full, e);
           }
 
-    -- where nothing is left over, they and the history are all
+    -- where nothing is left over, the list is the history and their samples
     pub after-all : {fs : List Subframe} {h : List ℤ} {n : ℤ} → After fs h n → length h₀ ≡ length fs * 40 + 120 → h ≡ there fs
     after-all t e = t .list ∙ rw (drop-of-length-le h₀ (le-of-eq e), append-nil)

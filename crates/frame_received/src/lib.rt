@@ -1,11 +1,10 @@
-// 4.3.1, 4.3.2: from a frame's codewords to its residual. One list holds the history and, after it, what the four sub-frames add: within
-// a frame nothing is moved.
+// 4.3.1, 4.3.2: from a frame's codewords to its reconstructed residual. One buffer holds the history and, after it, the
+// samples that the four sub-frames add. Within a frame nothing is moved.
 ghost use mathlib.Core.Path.{_≡_};
 ghost use mathlib.Core.Bool.{true};
-ghost use mathlib.Core.List.{_++_, flatten};
 ghost use lib.ListN.{length, take, drop};
 ghost use Rattle.standard.specs.LongTerm.{is-lag};
-ghost use Rattle.frame_received.specs.Received.{sub-reconstructed, frame-reconstructed};
+ghost use Rattle.frame_received.specs.Received.{sub-lag, sub-extended, frame-lag, frame-extended};
 
 // The thirteen pulses among a sub-frame's codewords.
 fn pulses(c: [i16; 17]) -> [i16; 13]
@@ -18,11 +17,11 @@ fn pulses(c: [i16; 17]) -> [i16; 13]
     xmc
 }
 
-// One sub-frame: the 40 samples after the 120 that stand before them, and the lag in use.
+// One sub-frame: makes the 40 samples that follow the 120 of the history, and returns the lag in use.
 fn sub_decoded(nrp: i16, c: &[i16], drp: &mut [i16]) -> i16
     requires { ⌜ (length (now c) ≡ 17) × ((length (now drp) ≡ 160) × (is-lag nrp ≡ true)) ⌝ }
-    ensures lag { λ r. ⌜ r ≡ sub-reconstructed (take 120 (now (drp .entry))) nrp (now (c .entry)) .0 .1 ⌝ }
-    ensures samples { λ r. ⌜ now (drp .exit) ≡ take 120 (now (drp .entry)) ++ sub-reconstructed (take 120 (now (drp .entry))) nrp (now (c .entry)) .1 ⌝ }
+    ensures lag { λ r. ⌜ r ≡ sub-lag (take 120 (now (drp .entry))) nrp (now (c .entry)) ⌝ }
+    ensures samples { λ r. ⌜ now (drp .exit) ≡ sub-extended (take 120 (now (drp .entry))) nrp (now (c .entry)) ⌝ }
 {
     let v = frame_codewords::sub_valid(c);
     let xmp = rpe_inverse::inverse(v[3], pulses(v));
@@ -37,11 +36,11 @@ fn sub_decoded(nrp: i16, c: &[i16], drp: &mut [i16]) -> i16
     lag
 }
 
-// The four sub-frames, each after what stands there by then; and the last lag in use.
+// The four sub-frames, each after the samples of the one before. Returns the last lag in use.
 pub fn decoded(nrp: i16, c: &[i16], drp: &mut [i16]) -> i16
     requires { ⌜ (length (now c) ≡ 76) × ((length (now drp) ≡ 280) × (is-lag nrp ≡ true)) ⌝ }
-    ensures lag { λ r. ⌜ r ≡ frame-reconstructed (take 120 (now (drp .entry))) nrp (now (c .entry)) .0 .1 ⌝ }
-    ensures samples { λ r. ⌜ now (drp .exit) ≡ take 120 (now (drp .entry)) ++ flatten (frame-reconstructed (take 120 (now (drp .entry))) nrp (now (c .entry)) .1) ⌝ }
+    ensures lag { λ r. ⌜ r ≡ frame-lag (take 120 (now (drp .entry))) nrp (now (c .entry)) ⌝ }
+    ensures samples { λ r. ⌜ now (drp .exit) ≡ frame-extended (take 120 (now (drp .entry))) nrp (now (c .entry)) ⌝ }
 {
     let first = sub_decoded(nrp, &c[8..25], &mut drp[0..160]);
     let second = sub_decoded(first, &c[25..42], &mut drp[40..200]);

@@ -1,3 +1,4 @@
+-- Iteration i stores codeword 4 + i. After 13 iterations the array is the codewords from the fifth on.
 use mathlib.Core.Path.{_≡_, refl, sym, _∙_}
 use Prim.Native.Nat.{_-_, _≤_}
 use native.Mathlib.Omega.{arith}

@@ -1,3 +1,5 @@
+-- The received fields fit their widths, so every index and the lag are in range. Each step gives the definition's value, and `sub-steps`
+-- puts them together.
 use mathlib.Core.Path.{_≡_, ap, _∙_}
 use mathlib.Core.List.{_++_}
 use native.Mathlib.Omega.{arith}
@@ -24,28 +26,34 @@ inverse-requires c κs =
     let f : SFits w16 (v .sub-valid .result at 3) = search needs in
     rw (back f, v .sub-valid .ensures) (field-fit (v .before .args .c .now) 3 (v .before .pre .0) (omega arith))
 
--- the grid, as a place
-grid : (c : tie.After-place-of) → c .place-of .result ≡ P (c .before .before .before .before .before .sub-valid .result at 2)
+-- the point after the fields are read, from the grid and from the lag in use
+abbrev fields : tie.After-place-of → tie.After-sub-valid
+fields c = c .before .before .before .before .before
+
+abbrev read : tie.After-used-lag → tie.After-sub-valid
+read c = c .before .before .before .before .before .before .before .before
+
+-- the grid, as an index
+grid : (c : tie.After-place-of) → c .place-of .result ≡ P (fields c .sub-valid .result at 2)
 grid c =
-    let f : SFits w16 (c .before .before .before .before .before .sub-valid .result at 2) = search needs in
+    let f : SFits w16 (fields c .sub-valid .result at 2) = search needs in
     c .place-of .ensures ∙ ap P (back f)
 
 positioned-requires : tie.Need-positioned-requires
 unfolding sub-widths
 positioned-requires c κs =
-    let v = c .before .before .before .before .before in
+    let v = fields c in
     let s = v .before in
     rw (grid c, v .sub-valid .ensures) (omega (arith, fit-is 2 _ (field-fit (s .args .c .now) 2 (s .pre .0) (omega arith))))
 
 -- the lag in use
-lag : (c : tie.After-used-lag) → let v = c .before .before .before .before .before .before .before .before in
-    c .used-lag .result ≡ Nr (v .before .args .nrp) (v .sub-valid .result at 0)
+lag : (c : tie.After-used-lag) → let v = read c in c .used-lag .result ≡ Nr (v .before .args .nrp) (v .sub-valid .result at 0)
 lag c =
-    let v = c .before .before .before .before .before .before .before .before in
+    let v = read c in
     let f : SFits w16 (v .sub-valid .result at 0) = search needs in
     rw (back f, back (v .before .fits .nrp)) at (c .used-lag .ensures)
 
--- as a place
+-- the same, as an index
 lag-at : (c : tie.After-place-of2) → c .place-of2 .result ≡ P (c .before .before .before .used-lag .result)
 lag-at c = c .place-of2 .ensures ∙ ap P (res (c .before .before .before .used-lag))
 
@@ -53,8 +61,9 @@ estimate-requires : tie.Need-estimate-requires
 estimate-requires c κs =
     let l = c .before .before in
     let u = l .before .before .before in
-    let v = u .before .before .before .before .before .before .before .before in
-    let t = lag-place (u .used-lag .result) (rw (lag u) (Nr-range (v .before .args .nrp) (v .sub-valid .result at 0) (v .before .pre .1 .1))) .1 in
+    let v = read u in
+    let in-range = Nr-range (v .before .args .nrp) (v .sub-valid .result at 0) (v .before .pre .1 .1) in
+    let t = lag-place (u .used-lag .result) (rw (lag u) in-range) .1 in
     (search needs, rw (lag-at l) (t .least, t .most))
 
 returns : tie.Need-returns
@@ -72,8 +81,10 @@ returns c =
     let xmp = rw (back amp, x .before .pulses .ensures) at (x .inverse .ensures) in
     let ep = rw (grid (o .before)) at (o .positioned .ensures) in
     let dpp = rw (lag-at l, g .place-of3 .ensures, back gain) at (e .estimate .ensures) in
-    let t = sub-steps (take 120 (s .args .drp .now)) (s .args .nrp) (s .args .c .now) _ _ _ _ _ _ (s .pre .0) (s .pre .1 .1) (v .sub-valid .ensures) (lag u) xmp ep dpp (c .before .reconstructed .ensures) in
-    (res (u .used-lag) ∙ t .0, put-last (s .args .drp .now) _ (s .pre .1 .0) ∙ ap (take 120 (s .args .drp .now) ++_) (t .1))
+    let drp = s .args .drp .now in
+    let t = sub-steps (take 120 drp) (s .args .nrp) (s .args .c .now) _ _ _ _ _ _ (s .pre .0) (s .pre .1 .1)
+    (v .sub-valid .ensures) (lag u) xmp ep dpp (c .before .reconstructed .ensures) in
+    (res (u .used-lag) ∙ t .0, put-last drp _ (s .pre .1 .0) ∙ ap (take 120 drp ++_) (t .1))
 
 pub sub-decoded-spec : {M : Type 1} → statement M
 sub-decoded-spec =
