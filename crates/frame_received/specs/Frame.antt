@@ -1,4 +1,4 @@
--- 4.3.2: what a frame leaves after the history that it started from: 160 samples of residual, and the history of the next frame.
+-- 4.3.2: what a frame adds to the history that it started from: 160 reconstructed samples. The last 120 are the next frame's history.
 use mathlib.Core.Path.{_≡_, refl, sym, _∙_}
 use mathlib.Core.Bool.{true}
 use mathlib.Core.List.{List, _++_, flatten}

@@ -1,5 +1,5 @@
-// 4.3.1, 4.3.2: from a frame's codewords to its reconstructed residual. One buffer holds the history and, after it, the
-// samples that the four sub-frames add. Within a frame nothing is moved.
+// 4.3.1, 4.3.2: from a frame's codewords to its reconstructed samples drp. One buffer holds the history and, after it,
+// the samples that the four sub-frames add. Within a frame nothing is moved.
 ghost use mathlib.Core.Path.{_≡_};
 ghost use mathlib.Core.Bool.{true};
 ghost use lib.ListN.{length, take, drop};

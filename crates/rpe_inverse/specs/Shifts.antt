@@ -1,4 +1,4 @@
--- No left shift of 4.2.16 loses a bit: each is the plain product, in the range that the codec meets.
+-- No left shift of 4.2.16 loses a bit: in the range that occurs in the codec, each is the plain product.
 use Prim.Native.Nat.{ℕ, _^_, _<_, _≤_}
 use mathlib.Core.Path.{_≡_}
 use mathlib.Core.Bool.{true}

@@ -1,4 +1,4 @@
--- The laws of 4.2.15: exponents, doublings, pulse codes, left shifts; and that exp_and_mant leaves no choice.
+-- The laws of 4.2.15: exponents, doublings, pulse codes, left shifts; and that the promise of exp_and_mant decides its result.
 pub mod Exponent
 pub mod Doubling
 pub mod Pulse

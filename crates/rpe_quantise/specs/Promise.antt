@@ -1,4 +1,4 @@
--- exp_and_mant's promise leaves no choice.
+-- The promise of exp_and_mant decides its result: two results for one code are equal.
 use mathlib.Core.Path.{_≡_, sym, _∙_}
 use Prim.Native.Nat.{ℕ}
 use lib.IntN.{ℤ}
@@ -8,7 +8,7 @@ use Rattle.standard.specs.Rpe.{amplitude}
 abbrev made : ℤ → ℕ → Amplitude
 made exp mant = record { exp = exp; mant = mant }
 
--- two answers for one code are equal
+-- a and b both keep the promise for one code, so they are equal
 pub one-amplitude : (code : ℤ) (a b : Amplitude)
     → a .exp ≡ amplitude code .exp → a .mant ≡ amplitude code .mant → b .exp ≡ amplitude code .exp → b .mant ≡ amplitude code .mant → a ≡ b
 one-amplitude code a b p q r s =

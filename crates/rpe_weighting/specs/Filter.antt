@@ -1,5 +1,5 @@
 -- 4.2.13: the residual between its zeros, and the weighting filter. No step of the filter's sum saturates, so the sum may be taken in
--- any order; and the two doublings that saturate, with the high word, are one shift and one clip.
+-- any order. The two doublings that can saturate, followed by the high word, are one shift and one clip.
 use Prim.Native.Nat.{ℕ, _+_, _*_, _<_, _≤_, min}
 use mathlib.Core.Path.{_≡_, refl, sym, ap, _∙_}
 use mathlib.Core.List.{List, [], _∷_, _++_, foldl, map, zipWith}
@@ -40,7 +40,7 @@ module _ (e : List ℤ) (l : length e ≡ 40) where
       getD-append-add (replicate 5 (pos 0)) (e ++ replicate 5 (pos 0)) k (pos 0)
       ∙ List·getD-append e (replicate 5 (pos 0)) (pos 0) k (omega arith)
 
-  -- once the forty are stored in an array of zeros, it is all there
+  -- after the forty are stored in an array of zeros, the array is complete
   pub around-end : (k : ℕ) → k ≡ 40 → filled (5 + k) (around e) (replicate 50 (pos 0)) ≡ around e
   around-end k h = rw (h, take-at e (replicate 5 (pos 0)) 40 l) refl
 
@@ -106,12 +106,12 @@ module _ (x : ℤ) where
 abbrev bounds : List ℕ
 bounds = 8781824 ∷ 24510464 ∷ 0 ∷ 134610944 ∷ 376242176 ∷ 536870912 ∷ 376242176 ∷ 134610944 ∷ 0 ∷ 24510464 ∷ 8781824 ∷ []
 
--- a plain sum, for `omega`
+-- a plain sum, in the form that `omega` reads
 fold-is : (s : ℤ) (xs : List ℤ) → P (foldl _+ℤ_ s xs) + (N s + sum (map N xs)) ≡ N (foldl _+ℤ_ s xs) + (P s + sum (map P xs))
 fold-is s [] = omega arith
 fold-is s (x ∷ xs) = omega (arith, add-is s x .0, fold-is (s +ℤ x) xs)
 
--- a tap times the sum of two, for `omega`
+-- a tap times the sum of two, in the form that `omega` reads
 pair-is : (h a b : ℤ)
     → P (h *ℤ (a +ℤ b)) + (P h * (N a + N b) + N h * (P a + P b)) ≡ N (h *ℤ (a +ℤ b)) + (P h * (P a + P b) + N h * (N a + N b))
 pair-is h a b =

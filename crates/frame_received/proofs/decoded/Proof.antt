@@ -44,7 +44,7 @@ module _ (s : tie.Start) where
   abbrev Holds : List Subframe → List ℤ → ℤ → Type 0
   Holds = After drp nrp
 
--- the point after the sub-frame before
+-- the point before each call: the start, or after the sub-frame before
 abbrev begun : tie.After-sub-decoded → tie.Start
 begun c = c .before .before .before
 

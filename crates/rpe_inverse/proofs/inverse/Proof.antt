@@ -32,7 +32,7 @@ Inv-loop xmaxc xmc temp1 temp2 temp3 xmp₀ i₀ xmp i =
 abbrev μ-loop : tie.MeasureT-loop
 μ-loop xmaxc xmc temp1 temp2 temp3 xmp₀ i₀ xmp i = 13 - i
 
--- the exponent that came back, from −4 to 6
+-- the exponent that was returned, from −4 to 6
 exp-is : (c : tie.After-struct-told Inv-loop μ-loop) → let k = c .before .before .before in
     let e = amplitude (k .before .args .xmaxc) .exp in
     (mem w16 (k .exp-and-mant .result .exp) ≡ e) × SFits w16 (pos 6 -ℤ e)

@@ -30,7 +30,7 @@ Inv-loop xmaxc xm temp1 temp2 xmc₀ i₀ xmc i = (i ≤ 13) × (xmc ≡ filled 
 abbrev μ-loop : tie.MeasureT-loop
 μ-loop xmaxc xm temp1 temp2 xmc₀ i₀ xmc i = 13 - i
 
--- the exponent that came back, from −4 to 6
+-- the exponent that was returned, from −4 to 6
 exp-is : (c : tie.After-exp-and-mant Inv-loop μ-loop) → let e = amplitude (c .before .args .code) .exp in
     (mem w16 (c .exp-and-mant .result .exp) ≡ e) × (P e ≤ 6) × (N e ≤ 4)
 exp-is c =

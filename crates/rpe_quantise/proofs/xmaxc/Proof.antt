@@ -19,7 +19,7 @@ use Rattle.rpe_quantise.specs.Exponent.{sum-in, xmaxc-is}
 use Rattle.rpe_quantise.proofs.xmaxc.Statement.{statement}
 use Rattle.rpe_quantise.proofs.xmaxc.Tie as tie
 
--- the exponent that came back
+-- the exponent that was returned
 exp-is : (c : tie.After-exponent) → c .exponent .result ≡ exponent (c .before .args .xmax)
 exp-is c = rw (back (c .before .fits .xmax)) at (c .exponent .ensures)
 

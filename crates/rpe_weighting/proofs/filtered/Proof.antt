@@ -1,4 +1,5 @@
--- Each partial sum fits 32 bits, by bounds on the pairs of taps. So the code's sum is `taps`, and the filter by the law `filtered-is`.
+-- Each partial sum fits 32 bits, by bounds on the pairs of taps, so the code's sum is `taps`. Its shift and its clip give the filter, by
+-- the law `filtered-is`.
 use Prim.Native.Nat.{ℕ, _+_, _≤_}
 use mathlib.Core.Path.{_≡_, sym, ap, ap₂, _∙_}
 use mathlib.Core.List.{List}

@@ -30,7 +30,7 @@ module _ (t : tie.In-loop Inv-loop μ-loop) where
   abbrev n : ℕ
   n = t .before .loop .n
 
-  -- s is the sum of the first n of grid m, and what is read at k, which is the next of the grid, is added to it
+  -- s is the sum of the first n of grid m; the number at k, the next of the grid, is added to it
   module _ (m : ℕ) (h : m ≤ 3) {s : ℤ} (e : s ≡ part m q n) (k : ℕ) (p : k ≡ m + 3 * n) (f : SFits w32 (q at k)) where
     more-is : s +ℤ mem w32 (q at k) ≡ part m q (n + 1)
     more-is = ap₂ _+ℤ_ e (back f ∙ ap (q at_) p) ∙ part-next m q n (omega arith)
