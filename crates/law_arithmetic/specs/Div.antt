@@ -97,8 +97,11 @@ unfolding loop
 loop-below zero num q d h = rw (mul-one num, div-eq-of-lt h) (omega arith)
 loop-below (suc k) num q d h = rw (pow-succ' 2 k) (by (λ m p. loop-below k m p d) (le-or-lt d (2 * num)))
   where
-    by : ((m p : ℕ) → m < d → loop k m p d ≡ p * 2 ^ k + (m * 2 ^ k) / d) → (d ≤ 2 * num) ⊎ (2 * num < d) → loop (suc k) num q d ≡ q * (2 * 2 ^ k) + (num * (2 * 2 ^ k)) / d
-    by ih (inl g) = turn-yes k num q d g ∙ (ih (2 * num - d) (2 * q + 1) (omega arith) ∙ taken num q d (2 ^ k) (2 * num - d) (omega arith) (omega arith))
+    by : ((m p : ℕ) → m < d → loop k m p d ≡ p * 2 ^ k + (m * 2 ^ k) / d) → (d ≤ 2 * num) ⊎ (2 * num < d)
+        → loop (suc k) num q d ≡ q * (2 * 2 ^ k) + (num * (2 * 2 ^ k)) / d
+    by ih (inl g) =
+        turn-yes k num q d g
+        ∙ (ih (2 * num - d) (2 * q + 1) (omega arith) ∙ taken num q d (2 ^ k) (2 * num - d) (omega arith) (omega arith))
     by ih (inr g) = turn-no k num q d g ∙ (ih (2 * num) (2 * q) g ∙ left num q d (2 ^ k))
 
 -- at the divisor, each turn adds a 1
@@ -113,6 +116,7 @@ loop-same (suc k) q d =
 pub div-loop : (num denum : ℕ) → 0 < num → num ≤ denum → div (pos num) (pos denum) ≡ pos (loop 15 num 0 denum)
 div-loop num denum p h =
     ⊎-elim
-    (λ g. let e : num ≡ denum = le-antisymm h g in rw e (above denum denum (omega arith) (omega arith) ∙ ap pos (omega (arith, loop-same 15 0 denum))))
+    (λ g. let e : num ≡ denum = le-antisymm h g in
+    rw e (above denum denum (omega arith) (omega arith) ∙ ap pos (omega (arith, loop-same 15 0 denum))))
     (λ g. below num denum g ∙ ap pos (omega (arith, loop-below 15 num 0 denum g)))
     (le-or-lt denum num)

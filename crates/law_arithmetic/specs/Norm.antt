@@ -50,7 +50,10 @@ normal z p f = go (leading-top 32 (natAbs z) (omega (zar, know f)) (omega (zar, 
         in
         record {
           shifts = d;
-          is = ap pos (first-unique (λ k. leb 1073741824 (n * 2 ^ k)) 31 0 d (omega arith) (omega arith) (λ k a g. lt-leb 1073741824 (n * 2 ^ k) (fewer k g)) (λ g. le-leb 1073741824 (n * 2 ^ d) low));
+          is =
+              ap pos
+              (first-unique (λ k. leb 1073741824 (n * 2 ^ k)) 31 0 d (omega arith) (omega arith)
+              (λ k a g. lt-leb 1073741824 (n * 2 ^ k) (fewer k g)) (λ g. le-leb 1073741824 (n * 2 ^ d) low));
           most = omega arith;
           reaches = low;
           stays = high;

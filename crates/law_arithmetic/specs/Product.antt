@@ -37,7 +37,9 @@ module _ (a b : ℤ) where
 
     pub mult-r-in : P (mult-r a b) + N (mult-r a b) ≤ B
     unfolding mult-r
-    mult-r-in = omega (arith, apart (mult-r a b), add-is (a *ℤ b) (pos 16384), shr-is (a *ℤ b +ℤ pos 16384) 32768 (omega arith), clip-is w16 ((a *ℤ b +ℤ pos 16384) >> 15))
+    mult-r-in =
+        let y = a *ℤ b +ℤ pos 16384 in
+        omega (arith, apart (mult-r a b), add-is (a *ℤ b) (pos 16384), shr-is y 32768 (omega arith), clip-is w16 (y >> 15))
 
   -- and its double within twice its bound
   pub L-mult-in : (B : ℕ) → P (a *ℤ b) + N (a *ℤ b) ≤ B → P (L-mult a b) + N (L-mult a b) ≤ B + B

@@ -6,4 +6,18 @@ use Rattle.law_arithmetic.specs.Product.{mult-fits, mult-r-fits, L-mult-
 use Rattle.law_arithmetic.specs.Div.{div-fits}
 use Rattle.law_arithmetic.specs.Norm.{norm-fits}
 
-pub ruleset results = (zfits, clip-fits, plus-fits, minus-fits, abs-fits, keep-fits, shr-word, shl-word, mult-fits, mult-r-fits, L-mult-fits, div-fits, norm-fits)
+pub ruleset results = (
+  zfits,
+  clip-fits,
+  plus-fits,
+  minus-fits,
+  abs-fits,
+  keep-fits,
+  shr-word,
+  shl-word,
+  mult-fits,
+  mult-r-fits,
+  L-mult-fits,
+  div-fits,
+  norm-fits,
+)

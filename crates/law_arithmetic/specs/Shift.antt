@@ -66,7 +66,8 @@ unfolding modulo keep
 up-bits w (pos a) n f = refl
 up-bits w (negsuc a) n f =
     let b : 2 ^ bits w - suc a + suc a ≡ 2 ^ bits w = omega (arith, half-full w (f .sfits)) in
-    ap (toZ w) (modulo-neg (2 ^ bits w) ((2 ^ bits w - suc a) * 2 ^ n) (suc a * 2 ^ n) (2 ^ n) (pow-pos (bits w)) (omega (arith, ap (λ (k : ℕ). k * 2 ^ n) b)))
+    let m = 2 ^ bits w in
+    ap (toZ w) (modulo-neg m ((m - suc a) * 2 ^ n) (suc a * 2 ^ n) (2 ^ n) (pow-pos (bits w)) (omega (arith, ap (λ (k : ℕ). k * 2 ^ n) b)))
 
 -- a shift by the whole width, or by more
 pub up-all : (w : Width) (z : ℤ) (n : ℕ) → SFits w z → bits w ≤ n → up w z n ≡ pos 0
@@ -76,7 +77,9 @@ up-all w z n f h = sym (up-bits w z n f) ∙ (ap (toZ w) gone ∙ toZ-pos w (pow
     k = omega arith
 
     gone : (ofZ w z * 2 ^ n) % 2 ^ bits w ≡ 0
-    gone = rw (ap (λ (x : ℕ). 2 ^ x) k ∙ pow-add 2 (n - bits w) (bits w), ← mul-assoc) (mul-mod-left (ofZ w z * 2 ^ (n - bits w)) (2 ^ bits w))
+    gone =
+        rw (ap (λ (x : ℕ). 2 ^ x) k ∙ pow-add 2 (n - bits w) (bits w), ← mul-assoc)
+        (mul-mod-left (ofZ w z * 2 ^ (n - bits w)) (2 ^ bits w))
 
 pub modulo-below : (z : ℤ) {m : ℕ} → 0 < m → modulo z m < m
 unfolding modulo
@@ -161,9 +164,13 @@ down-top l h =
     let k = 65535 - l in
     let a : l ≡ 65536 - suc k = omega arith in
     let b : l * 65536 ≡ 4294967296 - suc (k * 65536 + 65535) = omega arith in
-    ap (λ (x : ℕ). toZ w32 x >> 16) b ∙ (ap (λ (x : ℤ). x >> 16) (toZ-neg w32 (k * 65536 + 65535) (omega arith)) ∙ (ap negsuc (omega arith) ∙ (sym (toZ-neg w16 k (omega arith)) ∙ ap (toZ w16) (sym a)))))
+    ap (λ (x : ℕ). toZ w32 x >> 16) b
+    ∙ (ap (λ (x : ℤ). x >> 16) (toZ-neg w32 (k * 65536 + 65535) (omega arith))
+    ∙ (ap negsuc (omega arith) ∙ (sym (toZ-neg w16 k (omega arith)) ∙ ap (toZ w16) (sym a)))))
     (le-or-lt l 32767)
 
 pub low-word : (z : ℤ) → up w32 z 16 >> 16 ≡ keep w16 z
 unfolding keep
-low-word z = rw (modulo-scaled z {m = 65536} {c = 65536} (omega arith) (omega arith)) (down-top (modulo z 65536) (modulo-below z (omega arith)))
+low-word z =
+    rw (modulo-scaled z {m = 65536} {c = 65536} (omega arith) (omega arith))
+    (down-top (modulo z 65536) (modulo-below z (omega arith)))

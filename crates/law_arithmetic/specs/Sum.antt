@@ -41,7 +41,8 @@ alike : (B : ℕ) (xs : List ℤ) → ((i : ℕ) → i < length xs → natAbs (g
 alike B [] t = none
 alike B (x ∷ xs) t = t 0 (omega arith) also alike B xs (λ i h. t (suc i) (omega arith))
 
-module _ (w : Width) (B C : ℕ) (xs : List ℤ) (s : ℤ) (start : natAbs s ≤ C) (terms : (i : ℕ) → i < length xs → natAbs (getD xs i (pos 0)) ≤ B) (room : C + length xs * B < 2 ^ hbits w) where
+module _ (w : Width) (B C : ℕ) (xs : List ℤ) (s : ℤ) (start : natAbs s ≤ C)
+    (terms : (i : ℕ) → i < length xs → natAbs (getD xs i (pos 0)) ≤ B) (room : C + length xs * B < 2 ^ hbits w) where
   total : sum (replicate (length xs) B) ≡ length xs * B
   total = omega (arith, rw (sub-zero (length xs)) at (rest-sum B (length xs) 0))
 

@@ -48,7 +48,10 @@ unfolding coded decoded frame analysis
 same-frame c m sop a =
     let parts = cut (replicate 4 40) (analysis c sop .d) in
     let codes = map (λ s. s .codes) (run sub-step (c .dp) parts .1) in
-    record { history = sym (same-steps (c .dp) (m .nrp) parts) ∙ ap (λ x. run sub-decoded (x, m .nrp) codes .0 .0) (a .history); ratios = refl }
+    record {
+      history = sym (same-steps (c .dp) (m .nrp) parts) ∙ ap (λ x. run sub-decoded (x, m .nrp) codes .0 .0) (a .history);
+      ratios = refl;
+    }
 
 -- or as it stands in the 76 codewords
 pub same-words : (c : Coder) (m : Decoder) (sop : List ℤ) → Agree c m

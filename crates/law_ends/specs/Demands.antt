@@ -85,10 +85,12 @@ module _ (e : Encoder) (samples lent : List ℤ) (a : Encoded) (left : List ℤ)
       (house.mark (sub-coded dp d), mark, λ z. rw (sent z) (told dp d))
 
 -- encode_alaw: all of this over the samples that the octets stand for; the first number counts octets
-module _ (e : Encoder) (octets : List ℕ) (lent : List ℤ) (a : Encoded) (left : List ℤ) (p : Encodes e (alaw-samples octets) lent a left) where
+module _ (e : Encoder) (octets : List ℕ) (lent : List ℤ) (a : Encoded) (left : List ℤ)
+    (p : Encodes e (alaw-samples octets) lent a left) where
   pub encode-alaw-refuses : Exactly (a .number) 160 76 1 2 3 octets lent (sound-coder (coder e))
   encode-alaw-refuses =
-      exactly-as (a .number) 160 76 1 2 3 (alaw-samples octets) octets lent _ (sym (samples-length octets)) (encode-refuses e (alaw-samples octets) lent a left p)
+      exactly-as (a .number) 160 76 1 2 3 (alaw-samples octets) octets lent _ (sym (samples-length octets))
+      (encode-refuses e (alaw-samples octets) lent a left p)
 
   pub encode-alaw-hands-back : (n : ℕ) → a .number ≡ suc n → (a ≡ encoder.refused (suc n) e) × (left ≡ lent)
   encode-alaw-hands-back = encode-hands-back e (alaw-samples octets) lent a left p
@@ -136,7 +138,8 @@ module _ (m : Decoder) (codewords : List ℤ) (lent : List ℕ) (a : Decoded) (l
       (rw d at (p .state), rw d at (p .octets))
 
   -- the two decodes agree: from one state and one frame, lent as much, they have one answer, and the octets are those of the samples
-  pub octets-of-samples : (samples : List ℤ) (b : Decoded) (heard : List ℤ) → length lent ≡ length samples → Decodes m codewords samples b heard
+  pub octets-of-samples : (samples : List ℤ) (b : Decoded) (heard : List ℤ)
+      → length lent ≡ length samples → Decodes m codewords samples b heard
       → (a ≡ b) × (a .number ≡ 0 → left ≡ alaw-octets heard)
   octets-of-samples samples b heard l q =
       let (same, all) = decoder.one-octets m codewords lent a b left _ p (decoder.octets-keep m codewords samples b heard q lent l) in

@@ -25,15 +25,36 @@ pulses = flatten (replicate 4 (pulse (pos 8000)))
 
 -- its frame from home
 unfoldable pub first-frame : List ℤ
-first-frame = map pos (42 ∷ 38 ∷ 25 ∷ 15 ∷ 10 ∷ 6 ∷ 4 ∷ 3 ∷ 40 ∷ 0 ∷ 0 ∷ 31 ∷ 7 ∷ 2 ∷ 4 ∷ 3 ∷ 3 ∷ 4 ∷ 4 ∷ 4 ∷ 4 ∷ 4 ∷ 4 ∷ 4 ∷ 4 ∷ 40 ∷ 3 ∷ 0 ∷ 32 ∷ 7 ∷ 4 ∷ 2 ∷ 3 ∷ 4 ∷ 3 ∷ 3 ∷ 3 ∷ 3 ∷ 3 ∷ 3 ∷ 3 ∷ 3 ∷ 40 ∷ 3 ∷ 0 ∷ 5 ∷ 5 ∷ 7 ∷ 7 ∷ 2 ∷ 2 ∷ 4 ∷ 4 ∷ 4 ∷ 4 ∷ 4 ∷ 4 ∷ 4 ∷ 4 ∷ 40 ∷ 3 ∷ 2 ∷ 3 ∷ 2 ∷ 0 ∷ 2 ∷ 5 ∷ 3 ∷ 3 ∷ 3 ∷ 3 ∷ 3 ∷ 3 ∷ 3 ∷ 3 ∷ 3 ∷ [])
+first-frame =
+    map pos
+    (42 ∷ 38 ∷ 25 ∷ 15 ∷ 10 ∷ 6 ∷ 4 ∷ 3
+    ∷ 40 ∷ 0 ∷ 0 ∷ 31 ∷ 7 ∷ 2 ∷ 4 ∷ 3 ∷ 3 ∷ 4 ∷ 4 ∷ 4 ∷ 4 ∷ 4 ∷ 4 ∷ 4 ∷ 4
+    ∷ 40 ∷ 3 ∷ 0 ∷ 32 ∷ 7 ∷ 4 ∷ 2 ∷ 3 ∷ 4 ∷ 3 ∷ 3 ∷ 3 ∷ 3 ∷ 3 ∷ 3 ∷ 3 ∷ 3
+    ∷ 40 ∷ 3 ∷ 0 ∷ 5 ∷ 5 ∷ 7 ∷ 7 ∷ 2 ∷ 2 ∷ 4 ∷ 4 ∷ 4 ∷ 4 ∷ 4 ∷ 4 ∷ 4 ∷ 4
+    ∷ 40 ∷ 3 ∷ 2 ∷ 3 ∷ 2 ∷ 0 ∷ 2 ∷ 5 ∷ 3 ∷ 3 ∷ 3 ∷ 3 ∷ 3 ∷ 3 ∷ 3 ∷ 3 ∷ 3 ∷ [])
 
 -- the same with stray bits beside the valid ones
 unfoldable pub strayed : List ℤ
-strayed = pos 106 ∷ neg 26 ∷ pos 121 ∷ neg 241 ∷ pos 1610 ∷ neg 4090 ∷ pos 2044 ∷ pos 11 ∷ neg 88 ∷ pos 12 ∷ neg 32 ∷ pos 6431 ∷ neg 2041 ∷ pos 2042 ∷ pos 12 ∷ neg 5 ∷ pos 27 ∷ neg 60 ∷ pos 804 ∷ neg 2044 ∷ pos 2044 ∷ pos 12 ∷ neg 4 ∷ pos 28 ∷ neg 60 ∷ pos 12840 ∷ neg 1021 ∷ pos 1020 ∷ pos 96 ∷ neg 1 ∷ pos 28 ∷ neg 62 ∷ pos 803 ∷ neg 2044 ∷ pos 2043 ∷ pos 11 ∷ neg 5 ∷ pos 27 ∷ neg 61 ∷ pos 803 ∷ neg 2045 ∷ pos 2043 ∷ pos 168 ∷ neg 1 ∷ pos 12 ∷ neg 507 ∷ pos 805 ∷ neg 2041 ∷ pos 2047 ∷ pos 10 ∷ neg 6 ∷ pos 28 ∷ neg 60 ∷ pos 804 ∷ neg 2044 ∷ pos 2044 ∷ pos 12 ∷ neg 4 ∷ pos 28 ∷ neg 984 ∷ pos 403 ∷ neg 1022 ∷ pos 16323 ∷ pos 10 ∷ neg 8 ∷ pos 26 ∷ neg 59 ∷ pos 803 ∷ neg 2045 ∷ pos 2043 ∷ pos 11 ∷ neg 5 ∷ pos 27 ∷ neg 61 ∷ pos 803 ∷ neg 2045 ∷ []
+strayed =
+    pos 106 ∷ neg 26 ∷ pos 121 ∷ neg 241 ∷ pos 1610 ∷ neg 4090 ∷ pos 2044 ∷ pos 11
+    ∷ neg 88 ∷ pos 12 ∷ neg 32 ∷ pos 6431 ∷ neg 2041 ∷ pos 2042 ∷ pos 12 ∷ neg 5
+    ∷ pos 27 ∷ neg 60 ∷ pos 804 ∷ neg 2044 ∷ pos 2044 ∷ pos 12 ∷ neg 4 ∷ pos 28 ∷ neg 60
+    ∷ pos 12840 ∷ neg 1021 ∷ pos 1020 ∷ pos 96 ∷ neg 1 ∷ pos 28 ∷ neg 62 ∷ pos 803
+    ∷ neg 2044 ∷ pos 2043 ∷ pos 11 ∷ neg 5 ∷ pos 27 ∷ neg 61 ∷ pos 803 ∷ neg 2045 ∷ pos 2043
+    ∷ pos 168 ∷ neg 1 ∷ pos 12 ∷ neg 507 ∷ pos 805 ∷ neg 2041 ∷ pos 2047 ∷ pos 10
+    ∷ neg 6 ∷ pos 28 ∷ neg 60 ∷ pos 804 ∷ neg 2044 ∷ pos 2044 ∷ pos 12 ∷ neg 4 ∷ pos 28
+    ∷ neg 984 ∷ pos 403 ∷ neg 1022 ∷ pos 16323 ∷ pos 10 ∷ neg 8 ∷ pos 26 ∷ neg 59
+    ∷ pos 803 ∷ neg 2045 ∷ pos 2043 ∷ pos 11 ∷ neg 5 ∷ pos 27 ∷ neg 61 ∷ pos 803 ∷ neg 2045 ∷ []
 
 -- the frame of silence after it
 unfoldable pub second-frame : List ℤ
-second-frame = map pos (1 ∷ 28 ∷ 19 ∷ 11 ∷ 8 ∷ 2 ∷ 4 ∷ 1 ∷ 117 ∷ 0 ∷ 1 ∷ 12 ∷ 4 ∷ 4 ∷ 4 ∷ 3 ∷ 3 ∷ 4 ∷ 4 ∷ 4 ∷ 4 ∷ 4 ∷ 4 ∷ 4 ∷ 0 ∷ 118 ∷ 0 ∷ 2 ∷ 12 ∷ 4 ∷ 4 ∷ 4 ∷ 4 ∷ 4 ∷ 4 ∷ 4 ∷ 4 ∷ 4 ∷ 4 ∷ 4 ∷ 4 ∷ 0 ∷ 40 ∷ 0 ∷ 2 ∷ 0 ∷ 3 ∷ 3 ∷ 3 ∷ 3 ∷ 3 ∷ 3 ∷ 3 ∷ 3 ∷ 3 ∷ 3 ∷ 3 ∷ 3 ∷ 3 ∷ 108 ∷ 0 ∷ 1 ∷ 0 ∷ 4 ∷ 3 ∷ 3 ∷ 3 ∷ 3 ∷ 3 ∷ 3 ∷ 3 ∷ 3 ∷ 4 ∷ 3 ∷ 4 ∷ 3 ∷ [])
+second-frame =
+    map pos
+    (1 ∷ 28 ∷ 19 ∷ 11 ∷ 8 ∷ 2 ∷ 4 ∷ 1
+    ∷ 117 ∷ 0 ∷ 1 ∷ 12 ∷ 4 ∷ 4 ∷ 4 ∷ 3 ∷ 3 ∷ 4 ∷ 4 ∷ 4 ∷ 4 ∷ 4 ∷ 4 ∷ 4 ∷ 0
+    ∷ 118 ∷ 0 ∷ 2 ∷ 12 ∷ 4 ∷ 4 ∷ 4 ∷ 4 ∷ 4 ∷ 4 ∷ 4 ∷ 4 ∷ 4 ∷ 4 ∷ 4 ∷ 4 ∷ 0
+    ∷ 40 ∷ 0 ∷ 2 ∷ 0 ∷ 3 ∷ 3 ∷ 3 ∷ 3 ∷ 3 ∷ 3 ∷ 3 ∷ 3 ∷ 3 ∷ 3 ∷ 3 ∷ 3 ∷ 3
+    ∷ 108 ∷ 0 ∷ 1 ∷ 0 ∷ 4 ∷ 3 ∷ 3 ∷ 3 ∷ 3 ∷ 3 ∷ 3 ∷ 3 ∷ 3 ∷ 4 ∷ 3 ∷ 4 ∷ 3 ∷ [])
 
 -- code D5 of A-law over and over: a line on which nobody speaks
 abbrev pub idle : ℕ → List ℕ
@@ -41,7 +62,13 @@ idle n = replicate n 213
 
 -- the frame of such a line after the pulses
 unfoldable pub idle-frame : List ℤ
-idle-frame = map pos (8 ∷ 25 ∷ 17 ∷ 10 ∷ 8 ∷ 4 ∷ 3 ∷ 2 ∷ 118 ∷ 0 ∷ 2 ∷ 12 ∷ 4 ∷ 4 ∷ 4 ∷ 3 ∷ 4 ∷ 4 ∷ 4 ∷ 4 ∷ 4 ∷ 4 ∷ 4 ∷ 4 ∷ 0 ∷ 40 ∷ 0 ∷ 2 ∷ 0 ∷ 4 ∷ 4 ∷ 3 ∷ 4 ∷ 3 ∷ 3 ∷ 3 ∷ 3 ∷ 3 ∷ 3 ∷ 3 ∷ 3 ∷ 3 ∷ 106 ∷ 0 ∷ 1 ∷ 0 ∷ 4 ∷ 4 ∷ 4 ∷ 4 ∷ 4 ∷ 4 ∷ 4 ∷ 4 ∷ 4 ∷ 4 ∷ 4 ∷ 3 ∷ 4 ∷ 40 ∷ 0 ∷ 0 ∷ 0 ∷ 4 ∷ 4 ∷ 4 ∷ 4 ∷ 4 ∷ 4 ∷ 4 ∷ 4 ∷ 4 ∷ 4 ∷ 4 ∷ 4 ∷ 4 ∷ [])
+idle-frame =
+    map pos
+    (8 ∷ 25 ∷ 17 ∷ 10 ∷ 8 ∷ 4 ∷ 3 ∷ 2
+    ∷ 118 ∷ 0 ∷ 2 ∷ 12 ∷ 4 ∷ 4 ∷ 4 ∷ 3 ∷ 4 ∷ 4 ∷ 4 ∷ 4 ∷ 4 ∷ 4 ∷ 4 ∷ 4 ∷ 0
+    ∷ 40 ∷ 0 ∷ 2 ∷ 0 ∷ 4 ∷ 4 ∷ 3 ∷ 4 ∷ 3 ∷ 3 ∷ 3 ∷ 3 ∷ 3 ∷ 3 ∷ 3 ∷ 3 ∷ 3
+    ∷ 106 ∷ 0 ∷ 1 ∷ 0 ∷ 4 ∷ 4 ∷ 4 ∷ 4 ∷ 4 ∷ 4 ∷ 4 ∷ 4 ∷ 4 ∷ 4 ∷ 4 ∷ 3 ∷ 4
+    ∷ 40 ∷ 0 ∷ 0 ∷ 0 ∷ 4 ∷ 4 ∷ 4 ∷ 4 ∷ 4 ∷ 4 ∷ 4 ∷ 4 ∷ 4 ∷ 4 ∷ 4 ∷ 4 ∷ 4 ∷ [])
 
 abbrev home : Ends
 home = at-home (encoder-of home-coder) (decoder-of home-decoder)

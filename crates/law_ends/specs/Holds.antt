@@ -39,7 +39,8 @@ home-holds = record { carried = home-carried; sound = home-coder-sound; agree = 
 
 -- ---- encode
 
-module _ (c : Coder) (m : Decoder) (waiting : Option (List ℤ)) (samples codewords : List ℤ) (h : Holds c m waiting) (w : every word samples ≡ true) where
+module _ (c : Coder) (m : Decoder) (waiting : Option (List ℤ)) (samples codewords : List ℤ)
+    (h : Holds c m waiting) (w : every word samples ≡ true) where
   -- a frame that is coded waits from then on
   coded-holds : waiting ≡ none → Holds (coded c samples .0) m (some (words (frame (coded c samples .1))))
   unfolding caught-up
@@ -65,7 +66,8 @@ module _ (c : Coder) (m : Decoder) (waiting : Option (List ℤ)) (samples codewo
 
   -- and what is shown of one that is not refused
   pub encode-shows : let r = encode c samples codewords in
-      r .number ≡ 0 → (fits (r .codewords) ≡ true) × (every is-lag (map (λ f. f .Nc) (received (r .codewords) .subframes)) ≡ true) × SixSums c samples
+      r .number ≡ 0
+      → (fits (r .codewords) ≡ true) × (every is-lag (map (λ f. f .Nc) (received (r .codewords) .subframes)) ≡ true) × SixSums c samples
   encode-shows n =
       let e = sym (encode-number c samples codewords) ∙ n in
       let (l, _, _) = encode-exactly c samples codewords .allowed e in
@@ -79,7 +81,8 @@ caught : (m : Decoder) (waiting : Option (List ℤ)) (codewords : List ℤ) → 
     → caught-up m waiting ≡ decoded m (received codewords) .0
 unfolding caught-up
 caught m none codewords e = absurd (Option·none-ne-some (valid codewords) e)
-caught m (some sent) codewords e = ap (λ f. decoded m f .0) (received-valid sent codewords (Option·some-injective (valid sent) (valid codewords) e))
+caught m (some sent) codewords e =
+    ap (λ f. decoded m f .0) (received-valid sent codewords (Option·some-injective (valid sent) (valid codewords) e))
 
 module _ (c : Coder) (m : Decoder) (waiting : Option (List ℤ)) (codewords samples : List ℤ) (h : Holds c m waiting) where
   decode-keeps : (n : ℕ) → decode-refusal m codewords samples ≡ n → let r = decode m codewords samples in

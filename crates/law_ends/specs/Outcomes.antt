@@ -56,7 +56,12 @@ module _ (e : Encoder) (samples codewords : List ℤ) where
   -- what encode answers
   abbrev pub encode-answers : Encoded
   encode-answers =
-      record { number = encoded .number; state = encoder-of (encoded .state); ending = ending-of (encoded .ending); marks = marks-of (encoded .marks) }
+      record {
+        number = encoded .number;
+        state = encoder-of (encoded .state);
+        ending = ending-of (encoded .ending);
+        marks = marks-of (encoded .marks);
+      }
 
   -- and that it keeps the promise
   pub encode-can : Encodes e samples codewords encode-answers (encoded .codewords)

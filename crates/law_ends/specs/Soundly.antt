@@ -64,7 +64,10 @@ unfolding Made after
 still-sound t s (encodes samples codewords a left) (p, w) =
     record { encoder = encoder.state-sound (t .encoder) samples codewords a left p (s .encoder) w; decoder = s .decoder }
 still-sound t s (encodes-alaw octets codewords a left) p =
-    record { encoder = encoder.state-sound (t .encoder) (alaw-samples octets) codewords a left p (s .encoder) (samples-words octets); decoder = s .decoder }
+    record {
+      encoder = encoder.state-sound (t .encoder) (alaw-samples octets) codewords a left p (s .encoder) (samples-words octets);
+      decoder = s .decoder;
+    }
 still-sound t s (decodes codewords samples a left) p =
     record { encoder = s .encoder; decoder = decoder.state-sound (t .decoder) codewords samples a left p (s .decoder) }
 still-sound t s (decodes-alaw codewords octets a left) p =
@@ -80,4 +83,5 @@ never-unsound t s (c ∷ calls) (m, made) = (not-3 t s c m, never-unsound (after
 -- so from home
 pub never-unsound-from-home : (e : Encoder) (d : Decoder) → coder e ≡ home-coder → memory d ≡ home-decoder → (calls : List Call)
     → along Made (at-home e d) calls → along (λ _ c. ¬ (number c ≡ 3)) (at-home e d) calls
-never-unsound-from-home e d p q = never-unsound (at-home e d) (record { encoder = encoder.home-sound e p; decoder = decoder.home-sound d q })
+never-unsound-from-home e d p q =
+    never-unsound (at-home e d) (record { encoder = encoder.home-sound e p; decoder = decoder.home-sound d q })

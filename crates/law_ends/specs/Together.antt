@@ -105,8 +105,8 @@ abbrev pub at-home : Encoder → Decoder → Ends
 at-home e d = record { encoder = e; decoder = d; waiting = none }
 
 -- demand 3
-pub together : (e : Encoder) (d : Decoder) → coder e ≡ home-coder → memory d ≡ home-decoder → (calls : List Call) → let start = at-home e d in
-    along Made start calls → along Handed start calls → along Shown start calls
+pub together : (e : Encoder) (d : Decoder) → coder e ≡ home-coder → memory d ≡ home-decoder
+    → (calls : List Call) → let start = at-home e d in along Made start calls → along Handed start calls → along Shown start calls
 unfolding after Made Handed Shown lags along
 together e d p q = along-calls (at-home e d) (rw (p, q) home-holds)
   where

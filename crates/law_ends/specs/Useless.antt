@@ -81,16 +81,19 @@ refuses-frames d codewords lent a left l k s n p =
 
 -- and so on octets
 pub refuses-octets : (e : Encoder) (octets : List ℕ) (lent : List ℤ) (a : Encoded) (left : List ℤ)
-    → length octets ≡ 160 → length lent ≡ 76 → sound-coder (coder e) ≡ true → ¬ (a .number ≡ 0) → ¬ Encodes e (alaw-samples octets) lent a left
+    → length octets ≡ 160 → length lent ≡ 76 → sound-coder (coder e) ≡ true → ¬ (a .number ≡ 0)
+    → ¬ Encodes e (alaw-samples octets) lent a left
 refuses-octets e octets lent a left l k s n p = n (encode-alaw-refuses e octets lent a left p .allows l k s)
 
 pub refuses-heard : (d : Decoder) (codewords : List ℤ) (lent : List ℕ) (a : Decoded) (left : List ℕ)
-    → length lent ≡ 160 → length codewords ≡ 76 → sound-decoder (memory d) ≡ true → ¬ (a .number ≡ 0) → ¬ DecodesAlaw d codewords lent a left
+    → length lent ≡ 160 → length codewords ≡ 76 → sound-decoder (memory d) ≡ true → ¬ (a .number ≡ 0)
+    → ¬ DecodesAlaw d codewords lent a left
 refuses-heard d codewords lent a left l k s n p = n (decode-alaw-refuses d codewords lent a left p .allows l k s)
 
 -- ---- the codewords counted before the samples or the octets: 2, where the first length is wrong
 
-second-first : {A B : Type 0} (n : ℕ) (xs : List A) (ys : List B) (good : Bool) → Exactly n 160 76 1 2 3 xs ys good → ¬ (length xs ≡ 160) → ¬ (n ≡ 2)
+second-first : {A B : Type 0} (n : ℕ) (xs : List A) (ys : List B) (good : Bool)
+    → Exactly n 160 76 1 2 3 xs ys good → ¬ (length xs ≡ 160) → ¬ (n ≡ 2)
 second-first n xs ys good x h e = let first = x .first h in absurd (omega arith)
 
 pub codewords-first : (e : Encoder) (samples lent : List ℤ) (a : Encoded) (left : List ℤ)
@@ -103,7 +106,8 @@ codewords-first-octets e octets lent a left h n p = second-first (a .number) oct
 
 pub codewords-first-heard : (d : Decoder) (codewords lent : List ℤ) (a : Decoded) (left : List ℤ)
     → ¬ (length lent ≡ 160) → a .number ≡ 2 → ¬ Decodes d codewords lent a left
-codewords-first-heard d codewords lent a left h n p = second-first (a .number) lent codewords _ (decode-refuses d codewords lent a left p) h n
+codewords-first-heard d codewords lent a left h n p =
+    second-first (a .number) lent codewords _ (decode-refuses d codewords lent a left p) h n
 
 pub codewords-first-heard-octets : (d : Decoder) (codewords : List ℤ) (lent : List ℕ) (a : Decoded) (left : List ℕ)
     → ¬ (length lent ≡ 160) → a .number ≡ 2 → ¬ DecodesAlaw d codewords lent a left
@@ -228,7 +232,8 @@ invented-found e h a w p i s =
     true≢false (sym (ap says-found (ap (λ ms. getD ms i none) (sym none-measured) ∙ s)) ∙ none-found 4 i)
 
 -- the ending dropped: silence answered as complete
-pub dropped-ending : (e : Encoder) → coder e ≡ home-coder → (a : Encoded) (w : List ℤ) → Encodes e (zeros 160) (zeros 76) a w → ¬ (a .ending ≡ Ending-of.Complete)
+pub dropped-ending : (e : Encoder) → coder e ≡ home-coder → (a : Encoded) (w : List ℤ) → Encodes e (zeros 160) (zeros 76) a w
+    → ¬ (a .ending ≡ Ending-of.Complete)
 unfolding ending not-complete
 dropped-ending e h a w p s =
     let none-measured : ending (a .ending) ≡ some lpc.silent

@@ -71,7 +71,8 @@ subs-fit (s ∷ ss) h k =
     joined sub-widths (flatten (replicate (length ss) sub-widths)) (sub-words s) (flatten (map sub-words ss)) (sym l) k₀ (subs-fit ss h₁ k₁)
 
 -- and a frame fits where its ratios and its sub-frames do
-pub frame-fits : (f : Frame) → FrameSizes f → all-fit LARc-widths (f .LARc) ≡ true → every sub-fits (f .subframes) ≡ true → fits (words f) ≡ true
+pub frame-fits : (f : Frame)
+    → FrameSizes f → all-fit LARc-widths (f .LARc) ≡ true → every sub-fits (f .subframes) ≡ true → fits (words f) ≡ true
 unfolding words widths fits LARc-widths
 frame-fits f s h k =
     let rest = rw (s .subframes) at (subs-fit (f .subframes) (s .pulses) k) in

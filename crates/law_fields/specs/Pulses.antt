@@ -149,7 +149,8 @@ pulse-fits xmax x h f g = ⊎-elim plain extreme (le-or-lt (N x) 32767)
         rw (e, m) least
 
 -- xMc[0..12] are from 0 to 7, where xM[0..12] are words
-pub pulses-fit : (xs : List ℤ) → ((k : ℕ) → k < length xs → SFits w16 (xs at k)) → every (fit 3) (xMc (amplitude (xmaxc (peak xs))) xs) ≡ true
+pub pulses-fit : (xs : List ℤ)
+    → ((k : ℕ) → k < length xs → SFits w16 (xs at k)) → every (fit 3) (xMc (amplitude (xmaxc (peak xs))) xs) ≡ true
 unfolding xMc
 pulses-fit xs f =
     rw every-map

@@ -44,7 +44,8 @@ module _ (m : Decoder) (codewords samples : List ℤ) where
   unfolding decode
   decode-samples-length h =
       by-answer (λ (t : Decoded). length (t .samples) ≡ length samples) (decode-refusal m codewords samples)
-      (λ e. decoded-length m (received codewords) (decode-exactly m codewords samples .allowed e .2) h (frame-sizes e) ∙ sym (decode-exactly m codewords samples .allowed e .0)) (λ k. refl)
+      (λ e. let taken = decode-exactly m codewords samples .allowed e in
+      decoded-length m (received codewords) (taken .2) h (frame-sizes e) ∙ sym (taken .0)) (λ k. refl)
 
   -- and keeps the decoder's sizes
   pub decode-sizes : DecoderSizes m → DecoderSizes (decode m codewords samples .state)

@@ -97,7 +97,11 @@ module _ (c : Coder) (s : List ℤ) where
   pub coded-frame-sizes : FrameSizes (frame (coded c s .1))
   unfolding coded frame
   coded-frame-sizes =
-      record { LARc = analysis-codes-length c s; subframes = simp (length-map, coded-subframes); pulses = rw every-map (sub-steps-full (c .dp) _) }
+      record {
+        LARc = analysis-codes-length c s;
+        subframes = simp (length-map, coded-subframes);
+        pulses = rw every-map (sub-steps-full (c .dp) _);
+      }
 
   -- so it is 76 codewords
   pub coded-words-length : length (words (frame (coded c s .1))) ≡ 76

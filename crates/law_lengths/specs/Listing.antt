@@ -28,5 +28,6 @@ pub frames-sized : (bytes : List ℕ) → every (sized 160) (frames bytes) ≡ t
 unfolding frames
 frames-sized bytes =
     rw every-map
-    (every-so (sized frame-bytes) _ (λ b e. sized-yes 160 (file-words b) (omega (arith, file-words-length b, sized-length frame-bytes b e))) _
+    (every-so (sized frame-bytes) _
+    (λ b e. sized-yes 160 (file-words b) (omega (arith, file-words-length b, sized-length frame-bytes b e))) _
     (cut-sized (min (length bytes / frame-bytes) most-frames) frame-bytes bytes (omega arith)))

@@ -60,7 +60,8 @@ sub-read c l =
     pulse : (k : ℕ) → k < 13 → fit 3 (sub-frame c .xMc at k) ≡ true
     pulse k h =
         let n : length (drop 4 c) ≡ 13 = simp length-drop (omega arith) in
-        rw (zip-drop low-bits 4 sub-widths c, zip-replicate low-bits 3 13 (drop 4 c) n, map-at (low-bits 3) (drop 4 c) k (pos 0) (pos 0) (omega arith))
+        let read = map-at (low-bits 3) (drop 4 c) k (pos 0) (pos 0) (omega arith) in
+        rw (zip-drop low-bits 4 sub-widths c, zip-replicate low-bits 3 13 (drop 4 c) n, read)
         (low-bits-fit 3 (drop 4 c at k))
 
 -- all of them, of any 76 codewords
@@ -79,7 +80,8 @@ read-shifts c l =
     ratio : (i : ℕ) → i < 8 → fit (getD LARc-widths i 0) (ratio-words c at i) ≡ true
     ratio i h =
         let n : length (take 8 c) ≡ 8 = simp length-take (omega arith) in
-        rw (zip-at low-bits LARc-widths (take 8 c) i 0 (pos 0) (pos 0) h (omega arith)) (low-bits-fit (getD LARc-widths i 0) (take 8 c at i))
+        rw (zip-at low-bits LARc-widths (take 8 c) i 0 (pos 0) (pos 0) h (omega arith))
+        (low-bits-fit (getD LARc-widths i 0) (take 8 c at i))
 
     sub : (n : ℕ) (z : Subframe) → n < 4 → SubReadShifts (getD (sub-frames c) n z)
     sub n z h =

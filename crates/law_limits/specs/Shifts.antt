@@ -113,7 +113,8 @@ module _ (c : Coder) (sop : List ℤ) (l : length sop ≡ 160) (w : every word s
   there k h = omega (arith, s-length c sop)
 
   -- what scale 4 loses
-  lost : (k : ℕ) → k < 160 → scale c sop ≡ pos 4 → leZ (pos 32760) (s c sop at k) ≡ true → shl w16 (small c sop at k) (scale c sop) ≡ neg 32768
+  lost : (k : ℕ) → k < 160
+      → scale c sop ≡ pos 4 → leZ (pos 32760) (s c sop at k) ≡ true → shl w16 (small c sop at k) (scale c sop) ≡ neg 32768
   lost k h m g =
       let f : SFits w16 (s c sop at k) = word-is (s c sop at k) (every-at word (s c sop) k (pos 0) (s-words c sop) (there k h)) in
       rw (m, scaled-by 3 (s c sop) (omega arith), map-at (λ x. mult-r x (pos 2048)) (s c sop) k (pos 0) (pos 0) (there k h))

@@ -64,7 +64,8 @@ unfolding H
 taps = refl
 
 -- sums (b) to (e)
-pub partial-in : (A B : ℕ) {most : ℕ} (a b : List ℤ) → every (at-most A) a ≡ true → every (at-most B) b ≡ true → length a * (2 * (A * B)) ≤ most
+pub partial-in : (A B : ℕ) {most : ℕ} (a b : List ℤ)
+    → every (at-most A) a ≡ true → every (at-most B) b ≡ true → length a * (2 * (A * B)) ≤ most
     → (n : ℕ) → natAbs (foldl _+ℤ_ (pos 0) (take n (zipWith L-mult a b))) ≤ most
 partial-in A B {most} a b e f m n = omega (arith, partial (products A a b e) 0 (pos 0) (omega arith) n, alike A B a b f)
 

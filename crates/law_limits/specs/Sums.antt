@@ -139,7 +139,8 @@ sub-sums dp d v n w l =
     energy-range : (m : ℕ) → m ≤ 3
         → let energy = L-squares 2 (grid m (x dp d)) in (leZ (pos 0) energy ≡ true) × (leZ energy (pos 1744830464) ≡ true)
     energy-range m h =
-        within-is (pos 0) (pos 1744830464) (L-squares 2 (grid m (x dp d))) (energy-in m (x dp d) h (weighted-length (e dp d)) (x-words dp d))
+        within-is (pos 0) (pos 1744830464) (L-squares 2 (grid m (x dp d)))
+        (energy-in m (x dp d) h (weighted-length (e dp d)) (x-words dp d))
 
 -- ---- all six
 
@@ -152,7 +153,8 @@ pub six-sums : (c : Coder) (sop : List ℤ) → Carried c → sound-coder c ≡ 
 six-sums c sop h sound l w = (
   frame-sums c sop sound l w,
   λ i k.
-      sub-sums (history c sop i) (part c sop i) (history-words c sop h i) (history-length c sop h i) (part-words c sop i k h) (part-length c sop i k l),
+      sub-sums (history c sop i) (part c sop i) (history-words c sop h i) (history-length c sop h i)
+      (part-words c sop i k h) (part-length c sop i k l),
 )
 
 -- so from home, whatever frames of words came before

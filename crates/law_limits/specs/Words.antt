@@ -94,12 +94,14 @@ unfolding ratios LARpp
 ratios-words larc = tab-words _ 8 (λ i. plus-fits w16 _ _)
 
 -- a word through the eight sections of 4.2.10: the new u are words, and d is one
-analysed-words : (u rps : List ℤ) (s : ℤ) → word s ≡ true → (every word (analysed u (rps, s) .0) ≡ true) × (word (analysed u (rps, s) .1) ≡ true)
+analysed-words : (u rps : List ℤ) (s : ℤ) → word s ≡ true
+    → (every word (analysed u (rps, s) .0) ≡ true) × (word (analysed u (rps, s) .1) ≡ true)
 unfolding analysed section
 analysed-words u rps s h =
     let (a, b) =
     run-keeps section (λ t. (word (t .0) ≡ true) × (word (t .1) ≡ true)) (λ _. true) word
-    (λ t x k _. ((word-yes _ (plus-fits w16 _ _), word-yes _ (plus-fits w16 _ _)), k .1)) (s, s) (zip rps u) (h, h) (every-all _ (λ _. refl) _)
+    (λ t x k _. ((word-yes _ (plus-fits w16 _ _), word-yes _ (plus-fits w16 _ _)), k .1))
+    (s, s) (zip rps u) (h, h) (every-all _ (λ _. refl) _)
     in
     (b, a .0)
 
@@ -196,4 +198,5 @@ coded-carried c sop h =
 -- and after any number of frames
 pub coded-all-carried : (c : Coder) (frames : List (List ℤ)) → Carried c → Carried (run coded c frames .0)
 coded-all-carried c frames h =
-    run-keeps coded Carried (λ s. true) (λ t. true) (λ c sop k _. (coded-carried c sop k, refl)) c frames h (every-all _ (λ s. refl) frames) .0
+    let all = every-all _ (λ s. refl) frames in
+    run-keeps coded Carried (λ s. true) (λ t. true) (λ c sop k _. (coded-carried c sop k, refl)) c frames h all .0

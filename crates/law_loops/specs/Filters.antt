@@ -97,4 +97,5 @@ pub synthesis-is : (rrp : List ℤ) (wt : ℤ) (v : List ℤ) → length rrp ≡
     → let t = synthesis-loop rrp wt v in (take 8 (t .0), t .1) ≡ synthesised (take 8 v) (rrp, wt)
 unfolding steps inverse-turn synthesis-loop tab zip zipWith inverse-section synthesised
 synthesis-is rrp wt =
-    by-both (λ rrp v. let t = synthesis-loop rrp wt v in (take 8 (t .0), t .1) ≡ synthesised (take 8 v) (rrp, wt)) (pos 0) 8 9 (λ f g. refl) rrp
+    by-both (λ rrp v. let t = synthesis-loop rrp wt v in (take 8 (t .0), t .1) ≡ synthesised (take 8 v) (rrp, wt)) (pos 0) 8 9
+    (λ f g. refl) rrp

@@ -80,7 +80,8 @@ pub drp-loop : (bcr Nr : ℕ) → 40 ≤ Nr → Nr ≤ 120 → (drp old erp : Li
     → steps (drp-turn erp (QLB at bcr) Nr) 40 0 (drp ++ old) ≡ drp ++ zipWith add erp (dpp Nr bcr drp)
 unfolding steps drp-turn tab zipWith back dpp
 drp-loop bcr Nr p q =
-    by-three (λ drp old erp. steps (drp-turn erp (QLB at bcr) Nr) 40 0 (drp ++ old) ≡ drp ++ zipWith add erp (dpp Nr bcr drp)) (pos 0) 120 40 40
+    by-three (λ drp old erp. steps (drp-turn erp (QLB at bcr) Nr) 40 0 (drp ++ old) ≡ drp ++ zipWith add erp (dpp Nr bcr drp))
+    (pos 0) 120 40 40
     (λ f g h.
     tab-each (λ Nr. steps (drp-turn (tab h 0 40) (QLB at bcr) Nr) 40 0 (tab f 0 120 ++ tab g 0 40))
     (λ Nr. tab f 0 120 ++ zipWith add (tab h 0 40) (dpp Nr bcr (tab f 0 120))) 81 40 refl Nr p (omega arith))

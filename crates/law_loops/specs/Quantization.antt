@@ -58,7 +58,8 @@ stopped i exp temp = ⊎-elim (λ h. rw h) (λ h. rw h) (either (leZ temp (pos 0
 exp-stays : (n i : ℕ) (exp temp : ℤ) → steps exp-turn n i (exp, temp, 1) .0 ≡ exp
 unfolding steps
 exp-stays zero i exp temp = refl
-exp-stays (suc n) i exp temp = ap (λ (t : ℤ × ℤ × ℕ). steps exp-turn n (suc i) t .0) (stopped i exp temp) ∙ exp-stays n (suc i) exp (temp >> 1)
+exp-stays (suc n) i exp temp =
+    ap (λ (t : ℤ × ℤ × ℕ). steps exp-turn n (suc i) t .0) (stopped i exp temp) ∙ exp-stays n (suc i) exp (temp >> 1)
 
 -- until then exp counts the turns, and temp is xmax shifted by 9 and once more for each
 exp-counts : (xmax : ℤ) (n i : ℕ) → i + n ≤ 6
@@ -114,4 +115,5 @@ all-codes = refl
 -- so it is for each code
 pub mant-loop : (xmaxc : ℕ) → xmaxc < 64 → let a = amplitude (pos xmaxc) in exp-and-mant (pos xmaxc) ≡ (a .exp, pos (a .mant))
 mant-loop xmaxc h =
-    tab-each (λ c. exp-and-mant (pos c)) (λ c. let a = amplitude (pos c) in (a .exp, pos (a .mant))) 64 0 all-codes xmaxc (omega arith) (omega arith)
+    tab-each (λ c. exp-and-mant (pos c)) (λ c. let a = amplitude (pos c) in (a .exp, pos (a .mant))) 64 0 all-codes xmaxc
+    (omega arith) (omega arith)

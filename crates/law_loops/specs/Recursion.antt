@@ -106,7 +106,8 @@ zeros : (m : ℕ) → m < 8 → (r : List ℤ) → length r ≡ 8 → steps r-ze
 unfolding steps r-zero tab
 zeros m h =
     by-entries (λ r. steps r-zero (9 - suc m) (suc m) r ≡ take m r ++ padded (8 - m) []) (pos 0) 8
-    (λ f. tab-each (λ m. steps r-zero (9 - suc m) (suc m) (tab f 0 8)) (λ m. take m (tab f 0 8) ++ padded (8 - m) []) 8 0 refl m (omega arith) h)
+    (λ f.
+    tab-each (λ m. steps r-zero (9 - suc m) (suc m) (tab f 0 8)) (λ m. take m (tab f 0 8) ++ padded (8 - m) []) 8 0 refl m (omega arith) h)
 
 -- the EXIT at n = 8 leaves what no further turn would leave
 exits : (k n : ℕ) (P K r : List ℤ) → n + k ≡ 8 → cond (eqb n 8) r (r-loop k (suc n) P K r) ≡ r-loop k (suc n) P K r

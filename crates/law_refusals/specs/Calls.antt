@@ -30,7 +30,13 @@ module _ (c : Coder) (s w : List ℤ) where
   -- what is not refused is coded
   pub encode-done : encode-refusal c s w ≡ 0 → let t = coded c s in
       encode c s w
-      ≡ record { number = 0; state = t .0; ending = some (t .1 .ending); marks = map (λ x. some (mark x)) (t .1 .subframes); codewords = words (frame (t .1)) }
+      ≡ record {
+        number = 0;
+        state = t .0;
+        ending = some (t .1 .ending);
+        marks = map (λ x. some (mark x)) (t .1 .subframes);
+        codewords = words (frame (t .1));
+      }
   unfolding encode answer
   encode-done e = rw e
 
@@ -52,7 +58,8 @@ module _ (m : Decoder) (w s : List ℤ) where
   decode-number = answer-number (λ (r : Decoded). r .number) (decode-refusal m w s) refl (λ k. refl)
 
   -- what is not refused is decoded
-  pub decode-done : decode-refusal m w s ≡ 0 → let t = decoded m (received w) in decode m w s ≡ record { number = 0; state = t .0; samples = t .1 }
+  pub decode-done : decode-refusal m w s ≡ 0 → let t = decoded m (received w) in
+      decode m w s ≡ record { number = 0; state = t .0; samples = t .1 }
   unfolding decode answer
   decode-done e = rw e
 
@@ -84,7 +91,8 @@ module _ (m : Decoder) (w : List ℤ) (o : List ℕ) where
   decode-alaw-done e = rw e
 
   -- refused: the state as handed in, the octets that were there
-  pub decode-alaw-refused : (n : ℕ) → decode-alaw-refusal m w o ≡ suc n → decode-alaw m w o ≡ record { number = suc n; state = m; octets = o }
+  pub decode-alaw-refused : (n : ℕ) → decode-alaw-refusal m w o ≡ suc n
+      → decode-alaw m w o ≡ record { number = suc n; state = m; octets = o }
   unfolding decode-alaw answer
   decode-alaw-refused n e = rw e
 

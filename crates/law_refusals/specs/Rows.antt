@@ -11,7 +11,8 @@ use Rattle.standard.specs.House.{refusal, not-of}
 use Rattle.standard.specs.Answers.{answer}
 
 -- where the number is 0, what the first row asks is not wrong, and the rows after it give 0 too
-pub refusal-none : (wrong : Bool) (n : ℕ) (rows : List (Bool × ℕ)) → refusal ((wrong, suc n) ∷ rows) ≡ 0 → (wrong ≡ false) × (refusal rows ≡ 0)
+pub refusal-none : (wrong : Bool) (n : ℕ) (rows : List (Bool × ℕ))
+    → refusal ((wrong, suc n) ∷ rows) ≡ 0 → (wrong ≡ false) × (refusal rows ≡ 0)
 unfolding refusal
 refusal-none true n rows e = absurd (omega arith)
 refusal-none false n rows e = (refl, e)
@@ -64,7 +65,8 @@ three l m i j k xs ys good =
       allowed = right;
     }
   where
-    right : refusal ((not-of l xs, suc i) ∷ (not-of m ys, suc j) ∷ (not good, suc k) ∷ []) ≡ 0 → (length xs ≡ l) × (length ys ≡ m) × (good ≡ true)
+    right : refusal ((not-of l xs, suc i) ∷ (not-of m ys, suc j) ∷ (not good, suc k) ∷ []) ≡ 0
+        → (length xs ≡ l) × (length ys ≡ m) × (good ≡ true)
     right e =
         let last : List (Bool × ℕ) = (not good, suc k) ∷ [] in
         let r = refusal-none (not-of l xs) i ((not-of m ys, suc j) ∷ last) e in

@@ -108,5 +108,7 @@ module _ (x : ℤ) (h : long-range x ≡ true) where
       let p-is = mul-is (pos 32735) q in
       let first = add-is s t in
       let second = add-is p (s +ℤ t) in
-      rw (lsp-plain, msp-plain, high-product, low-product, plus-plain {w = w32} s t (omega zar), plus-plain {w = w32} p (s +ℤ t) (omega zar), e)
+      let inner = plus-plain {w = w32} s t (omega zar) in
+      let outer = plus-plain {w = w32} p (s +ℤ t) (omega zar) in
+      rw (lsp-plain, msp-plain, high-product, low-product, inner, outer, e)
       (omega (zar, add-is t p, add-is s (t +ℤ p)))

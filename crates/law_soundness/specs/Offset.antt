@@ -45,7 +45,8 @@ module _ (x : ℤ) (h : L-z2-range x ≡ true) where
   -- an L_z2 in its range, rounded, is from −32764 to 32764
   rounded-in : (P ((x +ℤ pos 16384) >> 15) ≤ 32764) × (N ((x +ℤ pos 16384) >> 15) ≤ 32764)
   rounded-in =
-      omega (arith, range-is 1073611249 1073611249 x h, add-is x (pos 16384), apart (x +ℤ pos 16384), shr-is (x +ℤ pos 16384) 32768 (omega arith))
+      let y = x +ℤ pos 16384 in
+      omega (arith, range-is 1073611249 1073611249 x h, add-is x (pos 16384), apart y, shr-is y 32768 (omega arith))
 
   -- so no clip is met, and no bit is lost
   rounded-plain : low (L-add x (pos 16384) >> 15) ≡ (x +ℤ pos 16384) >> 15

@@ -11,7 +11,8 @@ use lib.Signed.{shrZ}
 use borrow.Author.Tests.{ltb-true, ltb-false}
 use Rattle.math_integers.specs.Halves.{P, N, apart}
 
-sub-by : (a b : ℕ) (t : Bool) → ltb a b ≡ t → P (cond t (negsuc (b - suc a)) (pos (a - b))) + b ≡ N (cond t (negsuc (b - suc a)) (pos (a - b))) + a
+sub-by : (a b : ℕ) (t : Bool)
+    → ltb a b ≡ t → P (cond t (negsuc (b - suc a)) (pos (a - b))) + b ≡ N (cond t (negsuc (b - suc a)) (pos (a - b))) + a
 sub-by a b true e = omega (arith, ltb-true a b e)
 sub-by a b false e = omega (arith, ltb-false a b e)
 

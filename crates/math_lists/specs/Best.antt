@@ -122,7 +122,8 @@ module _ (xs : List ℤ) where
       (λ h l. absurd (omega arith))
 
   -- so the largest is no greater than what no element is above
-  pub largest-within : (b : ℤ) → leZ (pos 0) b ≡ true → ((j : ℕ) → j < length xs → leZ (getD xs j (pos 0)) b ≡ true) → leZ (largest xs) b ≡ true
+  pub largest-within : (b : ℤ)
+      → leZ (pos 0) b ≡ true → ((j : ℕ) → j < length xs → leZ (getD xs j (pos 0)) b ≡ true) → leZ (largest xs) b ≡ true
   unfolding best
   largest-within b l h =
       ⊎-elim (λ t. let (k, e) = best-at t in rw e at (h (best xs .at) k)) (λ t. omega zar) (either (ltZ (pos 0) (largest xs)))

@@ -24,7 +24,14 @@ module _ {A : Type 0} where
   unfolding lends flatten
   lends-from [] d r = rw append-nil
   lends-from (p ∷ ps) d r =
-      rw (lent-next d r p (length d) (length p) refl, ← length-append d p, lends-from ps (d ++ p) (drop (length p) r), drop-drop, length-append p (flatten ps), append-assoc d p (flatten ps))
+      rw (
+        lent-next d r p (length d) (length p) refl,
+        ← length-append d p,
+        lends-from ps (d ++ p) (drop (length p) r),
+        drop-drop,
+        length-append p (flatten ps),
+        append-assoc d p (flatten ps),
+      )
 
   -- parts that follow d and fill the list up are what the list has after d; with no d, they are the list
   pub lends-all : (d r : List A) (ps : List (List A)) → length r ≡ length (flatten ps) → lends (length d) ps (d ++ r) ≡ d ++ flatten ps
@@ -79,7 +86,8 @@ module _ {A : Type 0} (xs y₀ y₁ y₂ y₃ y₄ : List A) (k₀ k₁ k₂ k�
     unfolding lends flatten
     five =
         rw (← h₀, ← h₁, ← h₂, ← h₃, ← h₄)
-        (lends-all y₀ (drop (length y₀) xs) (y₁ ∷ y₂ ∷ y₃ ∷ y₄ ∷ []) (simp (length-drop, length-append) (omega arith)) ∙ simp (append-assoc, append-nil))
+        (lends-all y₀ (drop (length y₀) xs) (y₁ ∷ y₂ ∷ y₃ ∷ y₄ ∷ []) (simp (length-drop, length-append) (omega arith))
+        ∙ simp (append-assoc, append-nil))
 
     -- and the list keeps its length
     pub five-length : length lent-five ≡ length xs

@@ -73,7 +73,8 @@ module _ {S A B : Type 0} (step : S → A → S × B) where
 
     -- a turn: the element at i is read, its output is stored at i
     pub along-next : (d : A) {s s′ : S} {i : ℕ} {out : List B} {x : A} {v : B}
-        → Along s i out → i < length xs → i < length out → x ≡ getD xs i d → s′ ≡ step s x .0 → v ≡ step s x .1 → Along s′ (i + 1) (set out i v)
+        → Along s i out → i < length xs → i < length out → x ≡ getD xs i d → s′ ≡ step s x .0 → v ≡ step s x .1
+        → Along s′ (i + 1) (set out i v)
     unfolding run
     along-next d {s} {s′} {i} {out} {x} {v} h p q hx hs hv =
         let c : drop i xs ≡ x ∷ drop (suc i) xs = rw hx (drop-cons xs i d p) in

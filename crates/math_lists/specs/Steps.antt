@@ -28,7 +28,8 @@ module _ {S : Type 0} (f : ℕ → S → S) where
 
 module _ {S A : Type 0} (g : S → A → S) where
   -- a turn of a loop whose invariant is `foldl g s (drop i xs) ≡ foldl g s₀ xs`
-  pub fold-next : (xs : List A) (i : ℕ) (d : A) (s : S) → i < length xs → foldl g s (drop i xs) ≡ foldl g (g s (getD xs i d)) (drop (i + 1) xs)
+  pub fold-next : (xs : List A) (i : ℕ) (d : A) (s : S)
+      → i < length xs → foldl g s (drop i xs) ≡ foldl g (g s (getD xs i d)) (drop (i + 1) xs)
   fold-next xs i d s h = rw (add-one, drop-cons xs i d)
 
   -- after the loop

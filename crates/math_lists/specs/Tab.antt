@@ -1,4 +1,5 @@
--- For a loop that writes or reads a list by index: a list whose elements are given by their places, and the elements of `map` and `zipWith`.
+-- For a loop that writes or reads a list by index: a list whose elements are given by their index, and the elements of `map` and of
+-- `zipWith`.
 use mathlib.Core.Path.{_≡_, refl, sym, ap, _∙_}
 use mathlib.Core.List.{List, [], _∷_, _++_, map, zipWith}
 use Prim.Native.Nat.{ℕ, zero, suc, _+_, _≤_, _<_, min}
@@ -97,7 +98,8 @@ module _ {A B C : Type 0} (f : A → B → C) where
   zip-drop (suc n) (x ∷ xs) (y ∷ ys) = zip-drop n xs ys
 
 -- one element against each of a list is a map
-pub zip-replicate : {A B C : Type 0} (f : A → B → C) (a : A) (n : ℕ) (ys : List B) → length ys ≡ n → zipWith f (replicate n a) ys ≡ map (f a) ys
+pub zip-replicate : {A B C : Type 0} (f : A → B → C) (a : A) (n : ℕ) (ys : List B)
+    → length ys ≡ n → zipWith f (replicate n a) ys ≡ map (f a) ys
 unfolding zipWith
 zip-replicate f a zero [] h = refl
 zip-replicate f a zero (y ∷ ys) h = absurd (omega arith)

@@ -43,8 +43,11 @@ module _ (a b : List ℤ) (most : ℕ) where
           let terms = zipWith _*ℤ_ a b in
           let t : i < length terms = omega (arith, zip-length _*ℤ_ a b) in
           let x : terms at i ≡ p = zip-at _*ℤ_ a b i (pos 0) (pos 0) (pos 0) k (omega arith) ∙ sym e in
+          let one : foldl _+ℤ_ (s +ℤ p) (drop (i + 1) terms) ≡ foldl _+ℤ_ s (drop i terms) =
+          ap (λ (y : ℤ). foldl _+ℤ_ (s +ℤ y) (drop (i + 1) terms)) (sym x) ∙ sym (fold-next _+ℤ_ terms i (pos 0) s t)
+          in
           record {
-            rest = rw (ap (λ (y : ℤ). foldl _+ℤ_ (s +ℤ y) (drop (i + 1) terms)) (sym x) ∙ sym (fold-next _+ℤ_ terms i (pos 0) s t)) (h .rest);
+            rest = rw one (h .rest);
             near = omega (zar, h .near, abs-is s, abs-is p, abs-is (s +ℤ p), add-is s p, apart (s +ℤ p));
             each = λ j q. ⊎-elim (λ u. rw u (rw e at g)) (h .each j) (eq-or-lt-of-le (le-of-suc-le-suc (rw add-one at q)));
           }

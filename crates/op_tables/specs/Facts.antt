@@ -49,10 +49,13 @@ spans = refl
 pub LARc-span : (i : ℕ) → i < 8 → MAC at i -ℤ MIC at i ≡ pos (2 ^ getD LARc-widths i 0 - 1)
 unfolding MAC MIC LARc-widths
 LARc-span i h =
-    sym (zip-at _-ℤ_ MAC MIC i (pos 0) (pos 0) (pos 0) h h) ∙ (ap (λ (t : List ℤ). t at i) spans ∙ map-at (λ b. pos (2 ^ b - 1)) LARc-widths i 0 (pos 0) h)
+    sym (zip-at _-ℤ_ MAC MIC i (pos 0) (pos 0) (pos 0) h h)
+    ∙ (ap (λ (t : List ℤ). t at i) spans ∙ map-at (λ b. pos (2 ^ b - 1)) LARc-widths i 0 (pos 0) h)
 
 -- so a code between them, once MIC is taken from it, fits its field
-pub LARc-fits : (i : ℕ) (c : ℤ) → i < 8 → leZ (MIC at i) c ≡ true → leZ c (MAC at i) ≡ true → (P (c -ℤ MIC at i) < 2 ^ getD LARc-widths i 0) × (N (c -ℤ MIC at i) ≡ 0)
+pub LARc-fits : (i : ℕ) (c : ℤ)
+    → i < 8 → leZ (MIC at i) c ≡ true → leZ c (MAC at i) ≡ true
+    → (P (c -ℤ MIC at i) < 2 ^ getD LARc-widths i 0) × (N (c -ℤ MIC at i) ≡ 0)
 LARc-fits i c h l g =
     let m = MIC at i in
     let e = eq-is (MAC at i -ℤ m) (pos (2 ^ getD LARc-widths i 0 - 1)) (LARc-span i h) in

@@ -29,7 +29,13 @@ unfoldable pub encode : Coder → List ℤ → List ℤ → Encoded
 encode c samples codewords =
     let t = coded c samples in
     answer (encode-refusal c samples codewords)
-    (record { number = 0; state = t .0; ending = some (t .1 .ending); marks = map (λ s. some (mark s)) (t .1 .subframes); codewords = words (frame (t .1)) })
+    (record {
+      number = 0;
+      state = t .0;
+      ending = some (t .1 .ending);
+      marks = map (λ s. some (mark s)) (t .1 .subframes);
+      codewords = words (frame (t .1));
+    })
     (λ n. record { number = n; state = c; ending = none; marks = replicate 4 none; codewords = codewords })
 
 pub record Decoded : Type 0 where

@@ -38,7 +38,8 @@ pub record Codes : Type 0 where
   pub compresses-below : map compressed edges-below ≡ negative-codes
   pub beyond : map compressed (pos 4096 ∷ pos 32767 ∷ neg 4097 ∷ neg 32768 ∷ []) ≡ 170 ∷ 170 ∷ 42 ∷ 42 ∷ []
   pub samples : alaw-samples (213 ∷ 85 ∷ 170 ∷ 42 ∷ []) ≡ pos 8 ∷ neg 8 ∷ pos 32256 ∷ neg 32256 ∷ []
-  pub octets : alaw-octets (pos 0 ∷ pos 15 ∷ pos 16 ∷ neg 8 ∷ neg 16 ∷ neg 24 ∷ pos 32760 ∷ neg 32768 ∷ []) ≡ 213 ∷ 213 ∷ 212 ∷ 85 ∷ 85 ∷ 84 ∷ 170 ∷ 42 ∷ []
+  pub octets : alaw-octets (pos 0 ∷ pos 15 ∷ pos 16 ∷ neg 8 ∷ neg 16 ∷ neg 24 ∷ pos 32760 ∷ neg 32768 ∷ [])
+      ≡ 213 ∷ 213 ∷ 212 ∷ 85 ∷ 85 ∷ 84 ∷ 170 ∷ 42 ∷ []
 
 pub codes : Codes
 unfolding opened positive-codes negative-codes magnitudes edges edges-below

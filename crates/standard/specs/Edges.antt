@@ -26,7 +26,8 @@ pub record Coding : Type 0 where
   pub offset-rounds : offset (record { z1 = pos 0; L-z2 = pos 16401 }) (pos 0) ≡ (record { z1 = pos 0; L-z2 = pos 16384 }, pos 1)
   pub emphasis-high : emphasis (neg 32768) (pos 32767) .1 ≡ pos 32767
   pub emphasis-low : emphasis (pos 32767) (neg 32768) .1 ≡ neg 32768
-  pub scale-of-samples : map (λ x. scalauto (x ∷ [])) (above (0 ∷ 1 ∷ 2047 ∷ 2048 ∷ 32767 ∷ [])) ≡ pos 0 ∷ neg 10 ∷ pos 0 ∷ pos 1 ∷ pos 4 ∷ []
+  pub scale-of-samples : map (λ x. scalauto (x ∷ [])) (above (0 ∷ 1 ∷ 2047 ∷ 2048 ∷ 32767 ∷ []))
+      ≡ pos 0 ∷ neg 10 ∷ pos 0 ∷ pos 1 ∷ pos 4 ∷ []
   pub recursion-clips : measured 2 (pos 32767) (pos 16384 ∷ neg 32768 ∷ []) (pos 32767 ∷ []) ≡ neg 16384 ∷ []
   pub ratio : map LAR (above (22116 ∷ 22119 ∷ 31129 ∷ 31130 ∷ 32767 ∷ [])) ≡ above (11058 ∷ 11060 ∷ 20070 ∷ 20072 ∷ 26620 ∷ [])
   pub ratio-below : map LAR (below (1 ∷ 32768 ∷ [])) ≡ pos 0 ∷ neg 26620 ∷ []
@@ -80,7 +81,8 @@ coding = record {
 
 pub record Decoding : Type 0 where
   pub least-ratios : ratios (replicate 8 (pos 0)) ≡ below (26214 ∷ 26214 ∷ 16384 ∷ 9012 ∷ 9832 ∷ 4916 ∷ 6554 ∷ 3278 ∷ [])
-  pub most-ratios : ratios (above (63 ∷ 63 ∷ 31 ∷ 31 ∷ 15 ∷ 15 ∷ 7 ∷ 7 ∷ [])) ≡ above (25394 ∷ 25394 ∷ 9012 ∷ 16384 ∷ 8190 ∷ 11468 ∷ 7206 ∷ 9718 ∷ [])
+  pub most-ratios : ratios (above (63 ∷ 63 ∷ 31 ∷ 31 ∷ 15 ∷ 15 ∷ 7 ∷ 7 ∷ []))
+      ≡ above (25394 ∷ 25394 ∷ 9012 ∷ 16384 ∷ 8190 ∷ 11468 ∷ 7206 ∷ 9718 ∷ [])
   pub stretch-lengths : map (λ t. t .0) stretches ≡ 13 ∷ 14 ∷ 13 ∷ 120 ∷ []
   pub interpolated : map (λ t. t .1 (neg 32768) (pos 32767)) stretches ≡ neg 16385 ∷ neg 1 ∷ pos 16382 ∷ pos 32767 ∷ []
   pub coefficient : map rp (above (11058 ∷ 11060 ∷ 20069 ∷ 20071 ∷ 32767 ∷ [])) ≡ above (22116 ∷ 22119 ∷ 31128 ∷ 31129 ∷ 32767 ∷ [])

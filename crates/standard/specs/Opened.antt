@@ -24,5 +24,15 @@ use Rattle.standard.specs.Answers.{answer, encode, decode, decode-alaw, 
 use Rattle.standard.specs.Listing.{text, digits, decimal, word, ending-text, mark-text, line, header, F-line, S-line, numbered, frame-lines, E-line, frames, listing}
 
 unfoldable pub opened : Unit {0}
-unfolding first largest best tab run cut zipWith zip flatten clip modulo keep plus minus shl shr mult mult-r abs div L-mult norm peak L-sum L-squares A B MIC MAC INVA DLB QLB H NRFAC FAC LARc-widths sample sub-words words places sub-widths widths valid sub-received received downscaled recursive offset emphasis scalauto scaled rescaled L-ACF normalized ACF reflection measured schur ending r with-sign area-ratio LAR clamped LARc ratio-codes LARpp ratios stretches from-ratio rp stretch coefficients section analysed back scal correlations lag-search Nc L-power gain-level bc dpp residual filtered weighted grid Mc exponent xmaxc mantissa amplitude xMc xMp ep reconstructed updated analysis sub-coded sub-step frame coded Nr sub-decoded inverse-section synthesised de-emphasis srop decoded bits value frame-bits packed byte-bits unpacked spare magnitude expanded segment placed compressed alaw-samples alaw-octets home-coder home-decoder sound-coder sound-decoder mark refusal fit fits encode-refusal decode-refusal decode-alaw-refusal pack-refusal unpack-refusal answer encode decode decode-alaw pack unpack text digits decimal word ending-text mark-text line header F-line S-line numbered frame-lines E-line file-words file-bytes frames listing every
+unfolding
+    first largest best tab run cut zipWith zip flatten clip modulo keep plus minus shl shr mult mult-r abs div L-mult norm peak L-sum
+    L-squares A B MIC MAC INVA DLB QLB H NRFAC FAC LARc-widths sample sub-words words places sub-widths widths valid sub-received
+    received downscaled recursive offset emphasis scalauto scaled rescaled L-ACF normalized ACF reflection measured schur ending r
+    with-sign area-ratio LAR clamped LARc ratio-codes LARpp ratios stretches from-ratio rp stretch coefficients section analysed back
+    scal correlations lag-search Nc L-power gain-level bc dpp residual filtered weighted grid Mc exponent xmaxc mantissa amplitude xMc
+    xMp ep reconstructed updated analysis sub-coded sub-step frame coded Nr sub-decoded inverse-section synthesised de-emphasis srop
+    decoded bits value frame-bits packed byte-bits unpacked spare magnitude expanded segment placed compressed alaw-samples alaw-octets
+    home-coder home-decoder sound-coder sound-decoder mark refusal fit fits encode-refusal decode-refusal decode-alaw-refusal
+    pack-refusal unpack-refusal answer encode decode decode-alaw pack unpack text digits decimal word ending-text mark-text line header
+    F-line S-line numbered frame-lines E-line file-words file-bytes frames listing every
 opened = tt

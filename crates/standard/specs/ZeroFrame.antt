@@ -29,7 +29,11 @@ zero-history = map pos (flatten (replicate 3 (flatten (replicate 13 (4 ∷ 0 ∷
 
 unfoldable pub zero-bytes : List ℕ
 zero-bytes =
-    32 ∷ 72 ∷ 23 ∷ 214 ∷ 132 ∷ 2 ∷ 128 ∷ 36 ∷ 73 ∷ 146 ∷ 36 ∷ 137 ∷ 2 ∷ 128 ∷ 36 ∷ 73 ∷ 146 ∷ 36 ∷ 137 ∷ 2 ∷ 128 ∷ 36 ∷ 73 ∷ 146 ∷ 36 ∷ 137 ∷ 2 ∷ 128 ∷ 36 ∷ 73 ∷ 146 ∷ 36 ∷ 9 ∷ []
+    32 ∷ 72 ∷ 23 ∷ 214 ∷ 132
+    ∷ 2 ∷ 128 ∷ 36 ∷ 73 ∷ 146 ∷ 36 ∷ 137
+    ∷ 2 ∷ 128 ∷ 36 ∷ 73 ∷ 146 ∷ 36 ∷ 137
+    ∷ 2 ∷ 128 ∷ 36 ∷ 73 ∷ 146 ∷ 36 ∷ 137
+    ∷ 2 ∷ 128 ∷ 36 ∷ 73 ∷ 146 ∷ 36 ∷ 9 ∷ []
 
 pub record ZeroFrame : Type 0 where
   pub number : answered .number ≡ 0
@@ -40,7 +44,14 @@ pub record ZeroFrame : Type 0 where
   pub decoder-history : decoded home-decoder (received zero-frame) .0 .drp ≡ zero-history
   pub packs : pack zero-frame (replicate 33 1) ≡ record { number = 0; bytes = zero-bytes }
   pub unpacks : unpack zero-bytes (replicate 76 (pos 1)) ≡ record { number = 0; codewords = zero-frame }
-  pub lists : listing (replicate 323 0) ≡ text "RPELTP\t1\nF\t1\tsilent\t32\t32\t20\t11\t8\t5\t3\t2\nS\t1\t1\trule\t40\t0\t0\t0\t4\t4\t4\t4\t4\t4\t4\t4\t4\t4\t4\t4\t4\nS\t1\t2\trule\t40\t0\t0\t0\t4\t4\t4\t4\t4\t4\t4\t4\t4\t4\t4\t4\t4\nS\t1\t3\trule\t40\t0\t0\t0\t4\t4\t4\t4\t4\t4\t4\t4\t4\t4\t4\t4\t4\nS\t1\t4\trule\t40\t0\t0\t0\t4\t4\t4\t4\t4\t4\t4\t4\t4\t4\t4\t4\t4\nE\t1\t1\t1\tend\n"
+  pub lists : listing (replicate 323 0)
+      ≡ text "RPELTP\t1\n"
+      ++ text "F\t1\tsilent\t32\t32\t20\t11\t8\t5\t3\t2\n"
+      ++ text "S\t1\t1\trule\t40\t0\t0\t0\t4\t4\t4\t4\t4\t4\t4\t4\t4\t4\t4\t4\t4\n"
+      ++ text "S\t1\t2\trule\t40\t0\t0\t0\t4\t4\t4\t4\t4\t4\t4\t4\t4\t4\t4\t4\t4\n"
+      ++ text "S\t1\t3\trule\t40\t0\t0\t0\t4\t4\t4\t4\t4\t4\t4\t4\t4\t4\t4\t4\t4\n"
+      ++ text "S\t1\t4\trule\t40\t0\t0\t0\t4\t4\t4\t4\t4\t4\t4\t4\t4\t4\t4\t4\t4\n"
+      ++ text "E\t1\t1\t1\tend\n"
 
 pub zero-frames : ZeroFrame
 unfolding opened answered zero-frame zero-history zero-bytes

@@ -23,28 +23,36 @@ above-low : tie.Need-add-result
 above-low c =
     let s = c .before .before in
     let b = mem w32 (s .args .b) in
-    omega (zar, know (s .fits .a), know (s .fits .b), know (low-limit (c .before)), minus-is (negsuc 2147483647) b, add-is (mem w32 (s .args .a)) b)
+    let limit = know (low-limit (c .before)) in
+    omega (zar, know (s .fits .a), know (s .fits .b), limit, minus-is (negsuc 2147483647) b, add-is (mem w32 (s .args .a)) b)
 
 below-high : tie.Need-add-result-2
 below-high c =
     let s = c .before .before in
     let b = mem w32 (s .args .b) in
-    omega (zar, know (s .fits .a), know (s .fits .b), know (high-limit (c .before)), minus-is (pos 2147483647) b, add-is (mem w32 (s .args .a)) b)
+    let limit = know (high-limit (c .before)) in
+    omega (zar, know (s .fits .a), know (s .fits .b), limit, minus-is (pos 2147483647) b, add-is (mem w32 (s .args .a)) b)
 
 returns : tie.Need-returns
 returns c =
     let s = c .before .before in
+    let a = s .args .a in
     let b = s .args .b in
-    omega (zar, know (s .fits .a), know (s .fits .b), know (low-limit (c .before)), minus-is (negsuc 2147483647) (mem w32 b), add-is (s .args .a) b, plus-clip w32 (s .args .a) b)
+    let limit = know (low-limit (c .before)) in
+    omega (zar, know (s .fits .a), know (s .fits .b), limit, minus-is (negsuc 2147483647) (mem w32 b), add-is a b, plus-clip w32 a b)
 
 returns-3 : tie.Need-returns-3
 returns-3 c =
     let s = c .before .before in
+    let a = s .args .a in
     let b = s .args .b in
-    omega (zar, know (s .fits .a), know (s .fits .b), know (high-limit (c .before)), minus-is (pos 2147483647) (mem w32 b), add-is (s .args .a) b, plus-clip w32 (s .args .a) b)
+    let limit = know (high-limit (c .before)) in
+    omega (zar, know (s .fits .a), know (s .fits .b), limit, minus-is (pos 2147483647) (mem w32 b), add-is a b, plus-clip w32 a b)
 
 -- the sum, where it was made
-plain : (s : tie.Start) → SFits w32 (mem w32 (s .args .a) +ℤ mem w32 (s .args .b)) → mem w32 (mem w32 (s .args .a) +ℤ mem w32 (s .args .b)) ≡ plus w32 (s .args .a) (s .args .b)
+plain : (s : tie.Start)
+    → SFits w32 (mem w32 (s .args .a) +ℤ mem w32 (s .args .b))
+    → mem w32 (mem w32 (s .args .a) +ℤ mem w32 (s .args .b)) ≡ plus w32 (s .args .a) (s .args .b)
 plain s f =
     let a = back (s .fits .a) in
     let b = back (s .fits .b) in

@@ -26,29 +26,37 @@ below-high c =
     let s = c .before .before in
     let a = mem w32 (s .args .a) in
     let b = mem w32 (s .args .b) in
-    omega (zar, know (s .fits .a), know (s .fits .b), know (high-limit (c .before)), add-is (pos 2147483647) b, minus-is a b, apart (a -ℤ b))
+    let limit = know (high-limit (c .before)) in
+    omega (zar, know (s .fits .a), know (s .fits .b), limit, add-is (pos 2147483647) b, minus-is a b, apart (a -ℤ b))
 
 above-low : tie.Need-sub-result-2
 above-low c =
     let s = c .before .before in
     let a = mem w32 (s .args .a) in
     let b = mem w32 (s .args .b) in
-    omega (zar, know (s .fits .a), know (s .fits .b), know (low-limit (c .before)), add-is (negsuc 2147483647) b, minus-is a b, apart (a -ℤ b))
+    let limit = know (low-limit (c .before)) in
+    omega (zar, know (s .fits .a), know (s .fits .b), limit, add-is (negsuc 2147483647) b, minus-is a b, apart (a -ℤ b))
 
 returns : tie.Need-returns
 returns c =
     let s = c .before .before in
+    let a = s .args .a in
     let b = s .args .b in
-    omega (zar, know (s .fits .a), know (s .fits .b), know (high-limit (c .before)), add-is (pos 2147483647) (mem w32 b), minus-is (s .args .a) b, minus-clip w32 (s .args .a) b)
+    let limit = know (high-limit (c .before)) in
+    omega (zar, know (s .fits .a), know (s .fits .b), limit, add-is (pos 2147483647) (mem w32 b), minus-is a b, minus-clip w32 a b)
 
 returns-3 : tie.Need-returns-3
 returns-3 c =
     let s = c .before .before in
+    let a = s .args .a in
     let b = s .args .b in
-    omega (zar, know (s .fits .a), know (s .fits .b), know (low-limit (c .before)), add-is (negsuc 2147483647) (mem w32 b), minus-is (s .args .a) b, minus-clip w32 (s .args .a) b)
+    let limit = know (low-limit (c .before)) in
+    omega (zar, know (s .fits .a), know (s .fits .b), limit, add-is (negsuc 2147483647) (mem w32 b), minus-is a b, minus-clip w32 a b)
 
 -- the difference, where it was made
-plain : (s : tie.Start) → SFits w32 (mem w32 (s .args .a) -ℤ mem w32 (s .args .b)) → mem w32 (mem w32 (s .args .a) -ℤ mem w32 (s .args .b)) ≡ minus w32 (s .args .a) (s .args .b)
+plain : (s : tie.Start)
+    → SFits w32 (mem w32 (s .args .a) -ℤ mem w32 (s .args .b))
+    → mem w32 (mem w32 (s .args .a) -ℤ mem w32 (s .args .b)) ≡ minus w32 (s .args .a) (s .args .b)
 plain s f =
     let a = back (s .fits .a) in
     let b = back (s .fits .b) in

@@ -18,4 +18,12 @@ returns-2 c =
     cc (back (s .fits .x), n, res (c .up-long), shl-left w32 (s .args .x) (s .args .n) (rw n at (c .before .before .if1 .left)))
 
 pub l-shl-spec : {M : Type 1} → statement M
-l-shl-spec = tie.close (tie.spec (λ c κs. search needs) (λ c κs. search needs) (λ c κs. search needs) (λ c κs. search needs) returns returns-2)
+l-shl-spec =
+    tie.close
+    (tie.spec
+    (λ c κs. search needs)
+    (λ c κs. search needs)
+    (λ c κs. search needs)
+    (λ c κs. search needs)
+    returns
+    returns-2)

@@ -18,4 +18,12 @@ returns-2 c =
     cc (back (s .fits .x), n, res (c .down-long), shr-right w32 (s .args .x) (s .args .n) (rw n at (c .before .before .if1 .left)))
 
 pub l-shr-spec : {M : Type 1} → statement M
-l-shr-spec = tie.close (tie.spec (λ c κs. search needs) (λ c κs. search needs) (λ c κs. search needs) (λ c κs. search needs) returns returns-2)
+l-shr-spec =
+    tie.close
+    (tie.spec
+    (λ c κs. search needs)
+    (λ c κs. search needs)
+    (λ c κs. search needs)
+    (λ c κs. search needs)
+    returns
+    returns-2)

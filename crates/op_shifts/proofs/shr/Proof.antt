@@ -18,4 +18,12 @@ returns-2 c =
     cc (back (s .fits .x), n, res (c .down-word), shr-right w16 (s .args .x) (s .args .n) (rw n at (c .before .before .if1 .left)))
 
 pub shr-spec : {M : Type 1} → statement M
-shr-spec = tie.close (tie.spec (λ c κs. search needs) (λ c κs. search needs) (λ c κs. search needs) (λ c κs. search needs) returns returns-2)
+shr-spec =
+    tie.close
+    (tie.spec
+    (λ c κs. search needs)
+    (λ c κs. search needs)
+    (λ c κs. search needs)
+    (λ c κs. search needs)
+    returns
+    returns-2)

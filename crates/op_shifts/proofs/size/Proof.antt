@@ -13,13 +13,17 @@ sub-result : tie.Need-sub-result
 sub-result c = search zfits
 
 cast-result-2 : tie.Need-cast-result-2
-cast-result-2 c = omega (zar, know (c .before .fits .n), know (cast-result c), know (sub-result c), minus-is (pos 0) (mem w32 (mem w16 (c .before .args .n))))
+cast-result-2 c =
+    let n = mem w32 (mem w16 (c .before .args .n)) in
+    omega (zar, know (c .before .fits .n), know (cast-result c), know (sub-result c), minus-is (pos 0) n)
 
 cast-result-3 : tie.Need-cast-result-3
 cast-result-3 c = omega (zar, know (c .before .fits .n))
 
 returns : tie.Need-returns
-returns c = omega (zar, know (c .before .fits .n), know (cast-result c), know (sub-result c), minus-is (pos 0) (mem w32 (mem w16 (c .before .args .n))))
+returns c =
+    let n = mem w32 (mem w16 (c .before .args .n)) in
+    omega (zar, know (c .before .fits .n), know (cast-result c), know (sub-result c), minus-is (pos 0) n)
 
 returns-2 : tie.Need-returns-2
 returns-2 c = omega (zar, know (c .before .fits .n))

@@ -122,7 +122,8 @@ module _ (c : tie.After-loop Inv-loop μ-loop) where
   all-fit = rw count (s .pre .1)
 
 add-result : tie.Need-add-result Inv-loop μ-loop
-add-result c = sum-fits _ _ _ refl (all-fit c) (c .before .loop .inv .1) (rw (count c) (omega arith)) (rw (count c) (c .before .loop .inv .0))
+add-result c =
+    sum-fits _ _ _ refl (all-fit c) (c .before .loop .inv .1) (rw (count c) (omega arith)) (rw (count c) (c .before .loop .inv .0))
 
 returns : tie.Need-returns Inv-loop μ-loop
 unfolding L-squares

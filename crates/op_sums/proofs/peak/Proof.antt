@@ -53,11 +53,13 @@ loop-again c =
     let s = t .before .args .s .now in
     let k = t .loop .k in
     let f : SFits w16 (getD s k (pos 0)) = search needs in
-    let x-is : c .before .abs .result ≡ getD (map abs s) k (pos 0) = rw (back f) at (c .before .abs .ensures) ∙ sym (map-at abs s k (pos 0) (pos 0) (omega arith)) in
+    let x-is : a .abs .result ≡ getD (map abs s) k (pos 0) =
+    rw (back f) at (a .abs .ensures) ∙ sym (map-at abs s k (pos 0) (pos 0) (omega arith))
+    in
     let r-is = rw (res (c .before .abs)) at (c .larger .ensures) in
     let l : k < length (map abs s) = omega (arith, length-map s abs) in (
       omega arith,
-      res (c .larger) ∙ (r-is ∙ by-cond (λ m. m ≡ largest (take (k + 1) (map abs s))) (ltZ (toZ w16 (t .loop .max)) (c .before .abs .result))
+      res (c .larger) ∙ (r-is ∙ by-cond (λ m. m ≡ largest (take (k + 1) (map abs s))) (ltZ (toZ w16 (t .loop .max)) (a .abs .result))
           (largest-new (map abs s) k (t .loop .inv .1) l x-is) (largest-old (map abs s) k (t .loop .inv .1) l x-is)),
     )
 

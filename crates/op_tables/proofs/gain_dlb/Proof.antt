@@ -7,4 +7,10 @@ use Rattle.op_tables.proofs.gain_dlb.Tie as tie
 
 pub gain-dlb-spec : {M : Type 1} → statement M
 unfolding DLB
-gain-dlb-spec = tie.close (tie.spec (λ c. search needs) (λ c. search needs) (λ c. back (sfits-of (c .result .given))) (λ c. past-end DLB (c .if1 .left)))
+gain-dlb-spec =
+    tie.close
+    (tie.spec
+    (λ c. search needs)
+    (λ c. search needs)
+    (λ c. back (sfits-of (c .result .given)))
+    (λ c. past-end DLB (c .if1 .left)))

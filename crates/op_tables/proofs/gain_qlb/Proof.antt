@@ -7,4 +7,10 @@ use Rattle.op_tables.proofs.gain_qlb.Tie as tie
 
 pub gain-qlb-spec : {M : Type 1} → statement M
 unfolding QLB
-gain-qlb-spec = tie.close (tie.spec (λ c. search needs) (λ c. search needs) (λ c. back (sfits-of (c .result .given))) (λ c. past-end QLB (c .if1 .left)))
+gain-qlb-spec =
+    tie.close
+    (tie.spec
+    (λ c. search needs)
+    (λ c. search needs)
+    (λ c. back (sfits-of (c .result .given)))
+    (λ c. past-end QLB (c .if1 .left)))

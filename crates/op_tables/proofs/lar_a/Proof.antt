@@ -7,4 +7,10 @@ use Rattle.op_tables.proofs.lar_a.Tie as tie
 
 pub lar-a-spec : {M : Type 1} → statement M
 unfolding A
-lar-a-spec = tie.close (tie.spec (λ c. search needs) (λ c. search needs) (λ c. back (sfits-of (c .result .given))) (λ c. past-end A (c .if1 .left)))
+lar-a-spec =
+    tie.close
+    (tie.spec
+    (λ c. search needs)
+    (λ c. search needs)
+    (λ c. back (sfits-of (c .result .given)))
+    (λ c. past-end A (c .if1 .left)))

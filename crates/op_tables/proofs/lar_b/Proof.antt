@@ -7,4 +7,10 @@ use Rattle.op_tables.proofs.lar_b.Tie as tie
 
 pub lar-b-spec : {M : Type 1} → statement M
 unfolding B
-lar-b-spec = tie.close (tie.spec (λ c. search needs) (λ c. search needs) (λ c. back (sfits-of (c .result .given))) (λ c. past-end B (c .if1 .left)))
+lar-b-spec =
+    tie.close
+    (tie.spec
+    (λ c. search needs)
+    (λ c. search needs)
+    (λ c. back (sfits-of (c .result .given)))
+    (λ c. past-end B (c .if1 .left)))

@@ -7,4 +7,10 @@ use Rattle.op_tables.proofs.lar_inva.Tie as tie
 
 pub lar-inva-spec : {M : Type 1} → statement M
 unfolding INVA
-lar-inva-spec = tie.close (tie.spec (λ c. search needs) (λ c. search needs) (λ c. back (sfits-of (c .result .given))) (λ c. past-end INVA (c .if1 .left)))
+lar-inva-spec =
+    tie.close
+    (tie.spec
+    (λ c. search needs)
+    (λ c. search needs)
+    (λ c. back (sfits-of (c .result .given)))
+    (λ c. past-end INVA (c .if1 .left)))

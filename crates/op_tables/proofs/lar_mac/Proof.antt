@@ -7,4 +7,10 @@ use Rattle.op_tables.proofs.lar_mac.Tie as tie
 
 pub lar-mac-spec : {M : Type 1} → statement M
 unfolding MAC
-lar-mac-spec = tie.close (tie.spec (λ c. search needs) (λ c. search needs) (λ c. back (sfits-of (c .result .given))) (λ c. past-end MAC (c .if1 .left)))
+lar-mac-spec =
+    tie.close
+    (tie.spec
+    (λ c. search needs)
+    (λ c. search needs)
+    (λ c. back (sfits-of (c .result .given)))
+    (λ c. past-end MAC (c .if1 .left)))

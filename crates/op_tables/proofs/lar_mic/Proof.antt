@@ -7,4 +7,10 @@ use Rattle.op_tables.proofs.lar_mic.Tie as tie
 
 pub lar-mic-spec : {M : Type 1} → statement M
 unfolding MIC
-lar-mic-spec = tie.close (tie.spec (λ c. search needs) (λ c. search needs) (λ c. back (sfits-of (c .result .given))) (λ c. past-end MIC (c .if1 .left)))
+lar-mic-spec =
+    tie.close
+    (tie.spec
+    (λ c. search needs)
+    (λ c. search needs)
+    (λ c. back (sfits-of (c .result .given)))
+    (λ c. past-end MIC (c .if1 .left)))

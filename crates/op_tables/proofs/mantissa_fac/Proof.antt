@@ -7,4 +7,10 @@ use Rattle.op_tables.proofs.mantissa_fac.Tie as tie
 
 pub mantissa-fac-spec : {M : Type 1} → statement M
 unfolding FAC
-mantissa-fac-spec = tie.close (tie.spec (λ c. search needs) (λ c. search needs) (λ c. back (sfits-of (c .result .given))) (λ c. past-end FAC (c .if1 .left)))
+mantissa-fac-spec =
+    tie.close
+    (tie.spec
+    (λ c. search needs)
+    (λ c. search needs)
+    (λ c. back (sfits-of (c .result .given)))
+    (λ c. past-end FAC (c .if1 .left)))

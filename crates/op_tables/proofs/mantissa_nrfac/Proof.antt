@@ -7,4 +7,10 @@ use Rattle.op_tables.proofs.mantissa_nrfac.Tie as tie
 
 pub mantissa-nrfac-spec : {M : Type 1} → statement M
 unfolding NRFAC
-mantissa-nrfac-spec = tie.close (tie.spec (λ c. search needs) (λ c. search needs) (λ c. back (sfits-of (c .result .given))) (λ c. past-end NRFAC (c .if1 .left)))
+mantissa-nrfac-spec =
+    tie.close
+    (tie.spec
+    (λ c. search needs)
+    (λ c. search needs)
+    (λ c. back (sfits-of (c .result .given)))
+    (λ c. past-end NRFAC (c .if1 .left)))

@@ -7,4 +7,10 @@ use Rattle.op_tables.proofs.tap_h.Tie as tie
 
 pub tap-h-spec : {M : Type 1} → statement M
 unfolding H
-tap-h-spec = tie.close (tie.spec (λ c. search needs) (λ c. search needs) (λ c. back (sfits-of (c .result .given))) (λ c. past-end H (c .if1 .left)))
+tap-h-spec =
+    tie.close
+    (tie.spec
+    (λ c. search needs)
+    (λ c. search needs)
+    (λ c. back (sfits-of (c .result .given)))
+    (λ c. past-end H (c .if1 .left)))

@@ -24,7 +24,8 @@ div-result : tie.Need-div-result
 div-result c = let s = c .before .before .before in omega (zar, know (s .fits .denum))
 
 -- past the three tests, div is the quotient of what the locals give back
-quotient : (c : tie.Else3) → let s = c .before .before .before in div (s .args .num) (s .args .denum) ≡ pos (natAbs (mem w16 (s .args .num)) * 32768 / natAbs (mem w16 (s .args .denum)))
+quotient : (c : tie.Else3) → let s = c .before .before .before in
+    div (s .args .num) (s .args .denum) ≡ pos (natAbs (mem w16 (s .args .num)) * 32768 / natAbs (mem w16 (s .args .denum)))
 quotient c =
     let s = c .before .before .before in
     let low : leZ (pos 0) (s .args .num) ≡ true = omega (zar, know (s .fits .num)) in
