@@ -28,7 +28,7 @@ pub apart : (z : ℤ) → min (P z) (N z) ≡ 0
 apart (pos n) = omega arith
 apart (negsuc n) = omega arith
 
--- either way a test goes
+-- a test gives true or false
 pub either : (t : Bool) → (t ≡ true) ⊎ (t ≡ false)
 either true = inl refl
 either false = inr refl

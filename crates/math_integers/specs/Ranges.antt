@@ -1,4 +1,4 @@
--- Ranges of results, for `search`; and what passes through a local or comes back from a call.
+-- Ranges of results, for `search`; and what is true of a number that passes through a local or comes back from a call.
 use Prim.Native.Nat.{ℕ, suc, _+_, _*_, _^_, _≤_}
 use mathlib.Core.Path.{_≡_, refl, sym, ap, _∙_, subst⁻¹}
 use mathlib.Core.List.{List}
@@ -22,7 +22,7 @@ use borrow.Kind.SNum.{rSNum}
 use Rattle.math_integers.specs.Halves.{P, N, zar, know}
 use Rattle.math_integers.specs.Sums.{add-is, minus-is, mul-in}
 
--- v holds what w holds, what two numbers of w add up to, or what they multiply to
+-- a wider width v holds every number of w, the sum of two numbers of w, and their product
 pub wide : {w v : Width} {z : ℤ} → SFits w z → T (leb (hbits w) (hbits v)) → SFits v z
 wide f t = sfits-widen t f
 

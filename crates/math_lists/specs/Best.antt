@@ -1,4 +1,4 @@
--- For a loop that looks for the largest element, or for its first place.
+-- For a loop that looks for the largest element, or for the first index that holds it.
 use mathlib.Core.Path.{_≡_, refl, sym}
 use mathlib.Core.Bool.{Bool, true, false, cond, not, true≢false}
 use mathlib.Core.List.{List, [], _∷_, _++_, foldl, foldl-append}
@@ -43,7 +43,7 @@ larger m x = cond (ltZ m x) x m
 unfoldable pub largest : List ℤ → ℤ
 largest = foldl larger (pos 0)
 
--- a place and what it holds
+-- an index and the element there
 pub record Best : Type 0 where
   pub at : ℕ
   pub sum : ℤ
@@ -52,7 +52,7 @@ pub record Best : Type 0 where
 abbrev reaches : List ℤ → ℤ → ℕ → Bool
 reaches xs m k = not (ltZ (getD xs k (pos 0)) m)
 
--- the largest element and the first place that holds it, or 0 and place 0 where none is above 0
+-- the largest element and the first index that holds it; 0 and index 0 where no element is above 0
 unfoldable pub best : List ℤ → Best
 best xs =
     let m = largest xs in
@@ -97,12 +97,12 @@ module _ (xs : List ℤ) where
   pub largest-covers : (j : ℕ) → j < length xs → leZ (getD xs j (pos 0)) (largest xs) ≡ true
   largest-covers j h = le-not-lt (getD xs j (pos 0)) (largest xs) (top .covers j h)
 
-  -- it is the sum of the best
+  -- it is the field `sum` of the best
   pub best-largest : best xs .sum ≡ largest xs
   unfolding best
   best-largest = refl
 
-  -- where it is above 0, it is the element at the place
+  -- where it is above 0, it is the element at the index of the best
   pub best-at : ltZ (pos 0) (best xs .sum) ≡ true
       → (best xs .at < length xs) × (getD xs (best xs .at) (pos 0) ≡ best xs .sum)
   unfolding best
@@ -113,7 +113,7 @@ module _ (xs : List ℤ) where
       let k : first p (length xs) 0 < length xs = omega arith in
       rw h (k, lt-connex _ _ (not-true _ (first-holds p (length xs) 0 (omega arith))) (top .covers _ k))
 
-  -- and each element before is below it: a tie goes to the first
+  -- and each element before that index is smaller: of equal elements the first is taken
   pub best-first : (j : ℕ) → j < best xs .at → ltZ (getD xs j (pos 0)) (best xs .sum) ≡ true
   unfolding best
   best-first j =
@@ -121,14 +121,14 @@ module _ (xs : List ℤ) where
       (λ h l. not-false _ (first-least _ _ 0 j (omega arith) l))
       (λ h l. absurd (omega arith))
 
-  -- so the largest is no greater than what no element is above
+  -- a bound of all elements that is not negative is a bound of the largest
   pub largest-within : (b : ℤ)
       → leZ (pos 0) b ≡ true → ((j : ℕ) → j < length xs → leZ (getD xs j (pos 0)) b ≡ true) → leZ (largest xs) b ≡ true
   unfolding best
   largest-within b l h =
       ⊎-elim (λ t. let (k, e) = best-at t in rw e at (h (best xs .at) k)) (λ t. omega zar) (either (ltZ (pos 0) (largest xs)))
 
-  -- whatever the elements are, the place is one of the list's, where the list has any
+  -- the index lies within the list, if the list is not empty
   pub best-within : 0 < length xs → best xs .at < length xs
   unfolding best
   best-within l = by-cond (λ k. k < length xs) (ltZ (pos 0) (largest xs)) (λ h. rw h at (best-at h .0)) (λ h. l)
@@ -143,7 +143,7 @@ largest-next : (xs : List ℤ) (x : ℤ) → largest (xs ++ (x ∷ [])) ≡ larg
 unfolding largest
 largest-next xs x = foldl-append larger (pos 0) xs (x ∷ [])
 
--- a turn of a loop whose invariant is `m ≡ largest (take i xs)`, and in which x is read at i
+-- an iteration of a loop whose invariant is `m ≡ largest (take i xs)`, where x is read at index i
 module _ (xs : List ℤ) (i : ℕ) {m x : ℤ} (h : m ≡ largest (take i xs)) (p : i < length xs) (e : x ≡ getD xs i (pos 0)) where
   largest-turn : largest (take (i + 1) xs) ≡ larger m x
   largest-turn = rw (add-one, take-suc xs i (pos 0), largest-next, h, e)
@@ -161,7 +161,7 @@ pub best-start : best [] ≡ record { at = 0; sum = pos 0 }
 unfolding best first largest
 best-start = refl
 
--- one more element is the best where it is above the best of those before it
+-- one more element is the best exactly where it is above the best of those before it
 pub best-next : (xs : List ℤ) (x : ℤ) → best (xs ++ (x ∷ [])) ≡ cond (ltZ (best xs .sum) x) (record { at = length xs; sum = x }) (best xs)
 unfolding best
 best-next xs x = by-cond (λ b. best (xs ++ (x ∷ [])) ≡ b) (ltZ (largest xs) x) new (λ h. old h (ltZ (pos 0) (largest xs)) refl)
@@ -183,12 +183,12 @@ best-next xs x = by-cond (λ b. best (xs ++ (x ∷ [])) ≡ b) (ltZ (largest xs)
         (rw (List·getD-append xs (x ∷ []) (pos 0) (best xs .at) l, e) (lt-irrefl (largest xs)))
         (λ j k. rw (List·getD-append xs (x ∷ []) (pos 0) j (omega arith)) (best-first xs j k))
 
--- a turn of that loop, in which x is read at i
+-- an iteration of that loop, where x is read at index i
 module _ (xs : List ℤ) (i : ℕ) {b : Best} {x : ℤ} (h : b ≡ best (take i xs)) (p : i < length xs) (e : x ≡ getD xs i (pos 0)) where
   best-turn : best (take (i + 1) xs) ≡ cond (ltZ (b .sum) x) (record { at = i; sum = x }) b
   best-turn = rw (add-one, take-suc xs i (pos 0), best-next, h, e, length-take-le i xs (omega arith))
 
-  -- x is above the best so far, and is stored with its place
+  -- x is above the best so far, and is stored with its index
   pub best-new : ltZ (b .sum) x ≡ true → record { at = i; sum = x } ≡ best (take (i + 1) xs)
   best-new t = rw (best-turn, t)
 

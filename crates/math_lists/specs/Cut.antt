@@ -7,7 +7,7 @@ use native.Mathlib.Omega.{arith}
 use lib.ListN.{length, take, drop, replicate, take-append-drop, length-append, length-drop}
 use lib.Seq.{take-append-seam, drop-append-seam, drop-drop, length-take-le}
 
--- what the lengths come to; at a literal list it computes
+-- the sum of the lengths; for a list of literals it computes
 abbrev pub sum : List ℕ → ℕ
 sum = foldr _+_ 0
 
@@ -49,7 +49,7 @@ module _ {A : Type 0} where
   cut-joined [] q = refl
   cut-joined (p ∷ ps) q = rw (append-assoc, take-append-seam, drop-append-seam, cut-joined ps q)
 
-  -- parts joined are as long as they are together
+  -- the length of the parts joined is the sum of their lengths
   pub flatten-length : (ps : List (List A)) → length (flatten ps) ≡ sum (map length ps)
   unfolding flatten
   flatten-length [] = refl

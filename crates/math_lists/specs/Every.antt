@@ -1,4 +1,5 @@
--- A test that holds of all of a list: computed over a table and carried to each entry, and over lists that are joined, mapped or cut.
+-- A test that holds of every element of a list: it is computed over a table and carried to each entry; and it is followed through lists
+-- that are joined, mapped or cut.
 use mathlib.Core.Path.{_≡_, refl}
 use mathlib.Core.Bool.{Bool, true, _&&_, and-eq-true-iff, and-assoc}
 use mathlib.Core.Logic.{_↔_}
@@ -22,29 +23,29 @@ module _ {A : Type 0} (p : A → Bool) where
   unfolding every
   every-cons x xs = and-eq-true-iff (p x) (every xs)
 
-  -- so it holds of the element at each place
+  -- so it holds of the element at each index
   pub every-at : (xs : List A) (i : ℕ) (d : A) → every xs ≡ true → i < length xs → p (getD xs i d) ≡ true
   every-at [] i d e h = absurd (omega arith)
   every-at (x ∷ xs) zero d e h = every-cons x xs .0 e .0
   every-at (x ∷ xs) (suc i) d e h = every-at xs i d (every-cons x xs .0 e .1) (omega arith)
 
-  -- and where it holds of the element at each place, it holds of all
+  -- and where it holds of the element at each index, it holds of all
   pub every-places : (xs : List A) (d : A) → ((i : ℕ) → i < length xs → p (getD xs i d) ≡ true) → every xs ≡ true
   unfolding every
   every-places [] d h = refl
   every-places (x ∷ xs) d h = every-cons x xs .1 (h 0 (omega arith), every-places xs d (λ i l. h (suc i) (omega arith)))
 
-  -- what was computed over a table holds of what is at each place
+  -- what was computed over a table holds at each index
   pub every-tab : (f : ℕ → A) (n k : ℕ) → every (tab f 0 n) ≡ true → k < n → p (f k) ≡ true
   every-tab f n k e h = rw (tab-at-zero f n k (f 0) h) at (every-at (tab f 0 n) k (f 0) e (rw tab-length h))
 
-  -- it holds of one element many times over
+  -- it holds of a list that repeats one element
   pub every-replicate : (n : ℕ) (x : A) → p x ≡ true → every (replicate n x) ≡ true
   unfolding every
   every-replicate zero x e = refl
   every-replicate (suc n) x e = every-cons x (replicate n x) .1 (e, every-replicate n x e)
 
-  -- it holds of each element of a list where it holds of anything
+  -- a test that always holds, holds of every list
   pub every-all : ((x : A) → p x ≡ true) → (xs : List A) → every xs ≡ true
   unfolding every
   every-all h [] = refl
@@ -56,7 +57,7 @@ module _ {A : Type 0} (p : A → Bool) where
   every-append [] ys = refl
   every-append (x ∷ xs) ys = rw (every-append xs ys, and-assoc)
 
-  -- a turn of a loop whose invariant is `every p (drop i xs) ≡ every p xs`
+  -- an iteration of a loop whose invariant is `every p (drop i xs) ≡ every p xs`
   pub every-next : (xs : List A) (i : ℕ) (d : A) → i < length xs → every (drop i xs) ≡ (p (getD xs i d) && every (drop (i + 1) xs))
   unfolding every
   every-next xs i d h = rw (add-one, drop-cons xs i d)
@@ -78,7 +79,7 @@ module _ {A : Type 0} (p : A → Bool) where
       let t = rw (← take-append-drop n xs, every-append) at e in
       and-eq-true-iff (every (take n xs)) (every (drop n xs)) .0 t .1
 
-  -- a test that only a passes makes the list a over and over
+  -- a list whose elements pass a test that only a passes repeats a
   pub every-only : (a : A) → ((x : A) → p x ≡ true → x ≡ a) → (xs : List A) → every xs ≡ true → xs ≡ replicate (length xs) a
   unfolding every
   every-only a o [] e = refl

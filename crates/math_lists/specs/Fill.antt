@@ -17,19 +17,19 @@ module _ {A : Type 0} where
   fill-start t l = refl
 
   module _ (t d : List A) (i : ℕ) {l : List A} (h : l ≡ filled i t d) where
-    -- a turn: t's element is stored at i
+    -- an iteration: t's element is stored at index i
     pub fill-next : (z : A) {v : A} → i < length t → i < length d → v ≡ getD t i z → set l i v ≡ filled (i + 1) t d
     fill-next z p q e =
         rw (h, e, add-one, take-suc t i z, append-snoc, drop-cons d i z)
         (set-at (take i t) (getD d i z) (drop (suc i) d) (getD t i z) i (length-take-le i t (omega arith)))
 
-    -- within a turn: what is read at i or beyond is what stood there before, so a map in place reads the old element
+    -- within an iteration: what is read at i or beyond is what stood there before, so a map in place reads the old element
     pub fill-read : (j : ℕ) (z : A) → i ≤ length t → i ≤ j → getD l j z ≡ getD d j z
     fill-read j z p q =
         let k : j ≡ length (take i t) + (j - i) = rw (length-take-le i t) (omega arith) in
         rw (h, k, getD-append-add, getD-drop, length-take-le i t)
 
-    -- at any turn: the list keeps its length
+    -- at any iteration: the list keeps its length
     pub fill-length : i ≤ length t → i ≤ length d → length l ≡ length d
     fill-length p q = rw h (simp (length-append, length-take, length-drop) (omega arith))
 

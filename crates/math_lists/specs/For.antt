@@ -1,4 +1,4 @@
--- For a loop as 001 writes it, `FOR k = i to i + n − 1`, which is `steps`: what it comes to, by the kind of its turns.
+-- For a loop as the standard writes it, `FOR k = i to i + n − 1`, which is `steps`: what it gives, by the kind of its iterations.
 use mathlib.Core.Path.{_≡_, refl, sym, ap, _∙_}
 use mathlib.Core.Bool.{Bool, true, false, cond}
 use mathlib.Core.List.{List, [], _∷_, _++_, foldl}
@@ -15,7 +15,7 @@ use Rattle.math_lists.specs.Scan.{run, Along, along-start, along-next, a
 use Rattle.math_lists.specs.Best.{Best, best, best-start, best-next}
 
 module _ {S : Type 0} where
-  -- the last turn, after those before it
+  -- the last iteration, after those before it
   pub steps-last : (f : ℕ → S → S) (n i : ℕ) (s : S) → steps f (suc n) i s ≡ f (i + n) (steps f n i s)
   unfolding steps
   steps-last f zero i s = ap (λ (k : ℕ). f k s) (omega arith)
@@ -23,7 +23,7 @@ module _ {S : Type 0} where
       let e : suc i + n ≡ i + suc n = omega arith in
       rw (← e) (steps-last f n (suc i) (f i s))
 
-  -- two loops whose turns do the same come to the same
+  -- two loops whose iterations do the same give the same
   pub steps-same : (f g : ℕ → S → S) (n i : ℕ) (s : S)
       → ((k : ℕ) (s : S) → i ≤ k → k < i + n → f k s ≡ g k s) → steps f n i s ≡ steps g n i s
   unfolding steps
@@ -63,7 +63,7 @@ module _ {A : Type 0} where
   tab-same f g zero i e = refl
   tab-same f g (suc n) i e = rw (e i (omega arith) (omega arith), tab-same f g n (suc i) (λ k p q. e k (omega arith) (omega arith)))
 
-  -- what is computed of two tables is true at each of their places
+  -- what is computed of two tables is true at each index
   pub tab-each : (f g : ℕ → A) (n i : ℕ) → tab f i n ≡ tab g i n → (k : ℕ) → i ≤ k → k < i + n → f k ≡ g k
   tab-each f g n i e k p q =
       let at : i + (k - i) ≡ k = omega arith in
@@ -80,7 +80,7 @@ module _ {A : Type 0} where
 
 -- ---- a sum
 
--- a loop that takes a term at each turn is the fold over the terms
+-- a loop that takes a term at each iteration is the fold over the terms
 pub steps-tab : {S A : Type 0} (g : S → A → S) (f : ℕ → A) (n i : ℕ) (s : S) → steps (λ k s. g s (f k)) n i s ≡ foldl g s (tab f i n)
 unfolding steps tab
 steps-tab g f zero i s = refl
@@ -89,13 +89,13 @@ steps-tab g f (suc n) i s = steps-tab g f n (suc i) (g s (f i))
 -- ---- a state that is carried along
 
 module _ {S A B : Type 0} (step : S → A → S × B) (s₀ : S) (xs : List A) (d : A) where
-  -- turn k: the element at k takes the state on, and its output is stored at k
+  -- iteration k: the element at k gives the next state, and its output is stored at k
   abbrev pub carry : ℕ → S × List B → S × List B
   carry k (s, out) =
       let t = step s (getD xs k d) in
       (t .0, set out k (t .1))
 
-  -- the rest of the turns, from what is written so far
+  -- the rest of the iterations, from what is written so far
   carries : (n i : ℕ) (s : S) (out : List B)
       → i + n ≡ length xs → length out ≡ length xs → Along step s₀ xs s i out → steps carry n i (s, out) ≡ run step s₀ xs
   unfolding steps
@@ -106,17 +106,17 @@ module _ {S A B : Type 0} (step : S → A → S × B) (s₀ : S) (xs : List A) (
       let next = along-next step s₀ xs d h (omega arith) (omega arith) refl refl refl in
       carries n (suc i) _ _ (omega arith) (length-set out i _ ∙ l) (rw add-one at next)
 
-  -- such turns at each place are the run over the list
+  -- such iterations over all indices are the run over the list
   pub steps-run : (out : List B) → length out ≡ length xs → steps carry (length xs) 0 (s₀, out) ≡ run step s₀ xs
   steps-run out l = carries (length xs) 0 s₀ out (omega arith) l (along-start step s₀ xs out)
 
 -- ---- a search
 
--- turn k of a search: the term at k takes the place of the greatest so far where it is above it
+-- iteration k of a search: the term at k replaces the greatest so far where it is above it
 abbrev pub greater : (ℕ → ℤ) → ℕ → ℕ × ℤ → ℕ × ℤ
 greater f k (at, max) = cond (ltZ max (f k)) (k, f k) (at, max)
 
--- a search from 0 and the first place on finds the best and where it is
+-- a search that starts from sum 0 and the first index finds the best and its index
 pub steps-best : (f : ℕ → ℤ) (n i : ℕ) → steps (greater f) n i (i, pos 0) ≡ (i + best (tab f i n) .at, best (tab f i n) .sum)
 unfolding steps tab
 steps-best f zero i = let e : i ≡ i + 0 = omega arith in rw best-start (ap (λ (k : ℕ). (k, pos 0)) e)

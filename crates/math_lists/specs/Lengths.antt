@@ -45,7 +45,7 @@ pub pairs-length : {A B : Type 0} (xs : List A) (ys : List B) → length (zip xs
 unfolding zip
 pairs-length = zip-length (λ x y. (x, y))
 
--- a fold from the end in which each element adds one to a size, as where it puts one more in front of a list
+-- a fold from the end in which each element adds one to a size, as when it puts one more element in front of a list
 pub foldr-grows : {A S : Type 0} (size : S → ℕ) (f : A → S → S) → ((x : A) (s : S) → size (f x s) ≡ suc (size s))
     → (s : S) (xs : List A) → size (foldr f s xs) ≡ size s + length xs
 foldr-grows size f h s [] = omega arith

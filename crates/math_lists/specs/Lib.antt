@@ -1,3 +1,4 @@
+-- All that the specs of this crate have: laws on lists, a file for each kind of loop, and lists that are cut, joined or tested.
 pub mod Fill
 pub mod Scan
 pub mod Tab

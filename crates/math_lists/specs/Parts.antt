@@ -1,4 +1,4 @@
--- For a function that lends parts of one slice, one after the other, to functions that fill them.
+-- For a function that passes parts of one slice, one after the other, as buffers to functions that fill them.
 use mathlib.Core.Path.{_≡_, refl, _∙_}
 use mathlib.Core.List.{List, [], _∷_, _++_, append-assoc, append-nil, flatten}
 use Prim.Native.Nat.{ℕ, _+_, _≤_}
@@ -7,11 +7,11 @@ use lib.ListN.{length, drop, take, length-append, length-take, length-drop, drop
 use lib.Seq.{take-at, drop-at, drop-drop}
 
 module _ {A : Type 0} where
-  -- xs, of which the k elements from a on were lent and came back as ys
+  -- xs after its k elements from index a on were passed as a buffer and came back as ys
   abbrev pub put : ℕ → ℕ → List A → List A → List A
   put a k xs ys = take a xs ++ (ys ++ drop k (drop a xs))
 
-  -- p stands first, and the part that was lent starts where p ends
+  -- p stands first, and the part that was passed starts where p ends
   pub lent-next : (p q y : List A) (a k : ℕ) → length p ≡ a → put a k (p ++ q) y ≡ (p ++ y) ++ drop k q
   lent-next p q y a k h = rw (take-at p q a h, drop-at p q a h, append-assoc)
 
@@ -47,7 +47,7 @@ module _ {A : Type 0} where
       lends-length (a + length p) ps (put a (length p) xs p) (omega arith) ∙ e
 
 module _ {A : Type 0} (xs y₀ y₁ y₂ : List A) (k₀ k₁ k₂ : ℕ) where
-  -- what xs is after three parts of it, of k₀ to k₂ elements, were lent and came back as y₀ to y₂
+  -- what xs is after three parts of it, of k₀ to k₂ elements, were passed as buffers and came back as y₀ to y₂
   abbrev pub lent-three : List A
   lent-three = put (k₀ + k₁) k₂ (put k₀ k₁ (put 0 k₀ xs y₀) y₁) y₂
 
@@ -75,7 +75,7 @@ module _ {A : Type 0} (xs y₀ y₁ y₂ : List A) (k₀ k₁ k₂ : ℕ) where
     four-length y₃ h₃ = rw (four y₃ h₃) (simp length-append (omega arith))
 
 module _ {A : Type 0} (xs y₀ y₁ y₂ y₃ y₄ : List A) (k₀ k₁ k₂ k₃ k₄ : ℕ) where
-  -- what xs is after five parts of it, of k₀ to k₄ elements, were lent and came back as y₀ to y₄
+  -- what xs is after five parts of it, of k₀ to k₄ elements, were passed as buffers and came back as y₀ to y₄
   abbrev pub lent-five : List A
   lent-five = put (k₀ + k₁ + k₂ + k₃) k₄ (put (k₀ + k₁ + k₂) k₃ (put (k₀ + k₁) k₂ (put k₀ k₁ (put 0 k₀ xs y₀) y₁) y₂) y₃) y₄
 

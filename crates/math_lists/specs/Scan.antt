@@ -56,7 +56,7 @@ module _ {S A B : Type 0} (step : S → A → S × B) where
       let (h₁, g₁) = run-keeps Q p q k (step s x .0) xs h₀ e₁ in
       (h₁, every-cons q (step s x .1) (run (step s x .0) xs .1) .1 (g₀, g₁))
 
-  -- what the output of each step passes each output of the run passes
+  -- a test that the output of each step passes, each output of the run passes
   pub run-every : (q : B → Bool) → ((s : S) (x : A) → q (step s x .1) ≡ true) → (s : S) (xs : List A) → every q (run s xs .1) ≡ true
   run-every q h s xs =
       run-keeps (λ s. Unit) (λ x. true) q (λ s x _ _. (tt, h s x)) s xs tt (every-all (λ x. true) (λ x. refl) xs) .1
@@ -71,7 +71,7 @@ module _ {S A B : Type 0} (step : S → A → S × B) where
     pub along-start : (out : List B) → Along s₀ 0 out
     along-start out = record { written = refl; state = refl }
 
-    -- a turn: the element at i is read, its output is stored at i
+    -- an iteration: the element at i is read, its output is stored at i
     pub along-next : (d : A) {s s′ : S} {i : ℕ} {out : List B} {x : A} {v : B}
         → Along s i out → i < length xs → i < length out → x ≡ getD xs i d → s′ ≡ step s x .0 → v ≡ step s x .1
         → Along s′ (i + 1) (set out i v)

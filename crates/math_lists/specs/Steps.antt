@@ -1,4 +1,4 @@
--- For a loop that sums or searches: n more steps from place i on, and the fold over a list, which is the same by index.
+-- For a loop that sums or searches: n more steps from index i on; and the fold over a list, which is the same loop by index.
 use mathlib.Core.Path.{_≡_, sym}
 use mathlib.Core.List.{List, [], _∷_, foldl}
 use Prim.Native.Nat.{ℕ, zero, suc, _+_, _-_, _≤_, _<_}
@@ -9,12 +9,12 @@ use lib.ListN.{length, getD, drop, drop-of-length-le}
 use lib.Seq.{drop-cons}
 
 module _ {S : Type 0} (f : ℕ → S → S) where
-  -- what s becomes by f at each of n places from i on
+  -- what s becomes by f at each of n indices from i on
   unfoldable pub steps : ℕ → ℕ → S → S
   steps zero i s = s
   steps (suc n) i s = steps n (suc i) (f i s)
 
-  -- a turn of a loop whose invariant is `steps (e - i) i s ≡ steps e 0 s₀`
+  -- an iteration of a loop whose invariant is `steps (e - i) i s ≡ steps e 0 s₀`
   pub steps-next : (e i : ℕ) (s : S) → i < e → steps (e - i) i s ≡ steps (e - (i + 1)) (i + 1) (f i s)
   unfolding steps
   steps-next e i s h =
@@ -27,7 +27,7 @@ module _ {S : Type 0} (f : ℕ → S → S) where
   steps-end e i s h = rw (sub-eq-zero-of-le h)
 
 module _ {S A : Type 0} (g : S → A → S) where
-  -- a turn of a loop whose invariant is `foldl g s (drop i xs) ≡ foldl g s₀ xs`
+  -- an iteration of a loop whose invariant is `foldl g s (drop i xs) ≡ foldl g s₀ xs`
   pub fold-next : (xs : List A) (i : ℕ) (d : A) (s : S)
       → i < length xs → foldl g s (drop i xs) ≡ foldl g (g s (getD xs i d)) (drop (i + 1) xs)
   fold-next xs i d s h = rw (add-one, drop-cons xs i d)
@@ -47,7 +47,7 @@ module _ {S A : Type 0} (g : S → A → S) where
   pub steps-fold : (xs : List A) (d : A) (s : S) → steps (λ k s. g s (getD xs k d)) (length xs) 0 s ≡ foldl g s xs
   steps-fold xs d s = steps-drop xs d (length xs) 0 s (omega arith)
 
-  -- what holds before the loop and is kept by each turn holds after it
+  -- what holds before the loop and is kept by each iteration holds after it
   pub fold-keeps : (xs : List A) (d : A) (s : S) (Q : ℕ → S → Type 0)
       → Q 0 s → ((i : ℕ) (s : S) → i < length xs → Q i s → Q (suc i) (g s (getD xs i d))) → Q (length xs) (foldl g s xs)
   fold-keeps [] d s Q q k = q

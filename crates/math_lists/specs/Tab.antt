@@ -8,18 +8,18 @@ use lib.ListN.{length, getD, take, drop, replicate, length-map, List·getD-map}
 use lib.Seq.{ext-getD}
 
 module _ {A : Type 0} where
-  -- f at each of n places from i on; a constant table whose entries are these computes to it
+  -- f at each of n indices from i on; a constant table whose entries are these computes to it
   unfoldable pub tab : (ℕ → A) → ℕ → ℕ → List A
   tab f i zero = []
   tab f i (suc n) = f i ∷ tab f (suc i) n
 
-  -- there is an element for each place
+  -- there is an element for each index
   pub tab-length : (f : ℕ → A) (i n : ℕ) → length (tab f i n) ≡ n
   unfolding tab
   tab-length f i zero = refl
   tab-length f i (suc n) = ap suc (tab-length f (suc i) n)
 
-  -- what a turn stores at k, where the target is a table
+  -- what an iteration stores at k, where the target is a table
   pub tab-at : (f : ℕ → A) (i n k : ℕ) (d : A) → k < n → getD (tab f i n) k d ≡ f (i + k)
   unfolding tab
   tab-at f i zero k d h = absurd (omega arith)
@@ -31,27 +31,27 @@ module _ {A : Type 0} where
   tab-at-zero f n k d h = tab-at f 0 n k d h ∙ ap f (omega arith)
 
 module _ {A B : Type 0} (g : A → B) where
-  -- what a turn stores at k, where the target is a map
+  -- what an iteration stores at k, where the target is a map
   pub map-at : (xs : List A) (k : ℕ) (d : A) (z : B) → k < length xs → getD (map g xs) k z ≡ g (getD xs k d)
   map-at [] k d z h = absurd (omega arith)
   map-at (x ∷ xs) zero d z h = refl
   map-at (x ∷ xs) (suc k) d z h = map-at xs k d z (omega arith)
 
-  -- g at each place of a list is the map
+  -- g at each index of a list is the map
   pub tab-map : (xs : List A) (d : A) → tab (λ k. g (getD xs k d)) 0 (length xs) ≡ map g xs
   tab-map xs d =
       let n = tab-length (λ (k : ℕ). g (getD xs k d)) 0 (length xs) in
       ext-getD (g d) _ _ (n ∙ sym (length-map xs g)) (λ k h. tab-at-zero _ _ k (g d) (omega arith) ∙ sym (List·getD-map g xs k d))
 
 module _ {A B C : Type 0} (f : A → B → C) where
-  -- two lists go together as far as the shorter
+  -- there are as many pairs as the shorter list has elements
   pub zip-length : (xs : List A) (ys : List B) → length (zipWith f xs ys) ≡ min (length xs) (length ys)
   unfolding zipWith
   zip-length [] ys = omega arith
   zip-length (x ∷ xs) [] = omega arith
   zip-length (x ∷ xs) (y ∷ ys) = omega (arith, zip-length xs ys)
 
-  -- what a turn stores at k, where the target is made of two lists
+  -- what an iteration stores at k, where the target is made of two lists
   pub zip-at : (xs : List A) (ys : List B) (k : ℕ) (a : A) (b : B) (z : C)
       → k < length xs → k < length ys → getD (zipWith f xs ys) k z ≡ f (getD xs k a) (getD ys k b)
   unfolding zipWith
@@ -60,7 +60,7 @@ module _ {A B C : Type 0} (f : A → B → C) where
   zip-at (x ∷ xs) (y ∷ ys) zero a b z p q = refl
   zip-at (x ∷ xs) (y ∷ ys) (suc k) a b z p q = zip-at xs ys k a b z (omega arith) (omega arith)
 
-  -- two lists joined go together with two joined, where the first of them have one length
+  -- the pairs of two lists, each joined of two, are joined too, where the first parts have one length
   pub zip-append : (xs xs′ : List A) (ys ys′ : List B) → length xs ≡ length ys
       → zipWith f (xs ++ xs′) (ys ++ ys′) ≡ zipWith f xs ys ++ zipWith f xs′ ys′
   unfolding zipWith
@@ -76,7 +76,7 @@ module _ {A B C : Type 0} (f : A → B → C) where
   zip-front (x ∷ xs) [] zs h = absurd (omega arith)
   zip-front (x ∷ xs) (y ∷ ys) zs h = ap (f x y ∷_) (zip-front xs ys zs (omega arith))
 
-  -- the front of two lists that go together
+  -- the first n pairs
   pub zip-take : (n : ℕ) (xs : List A) (ys : List B) → take n (zipWith f xs ys) ≡ zipWith f (take n xs) (take n ys)
   unfolding zipWith
   zip-take zero xs ys = refl

@@ -1,1 +1,1 @@
-// Laws on lists; no code.
+// Laws on lists, most of them for the invariant of one kind of loop. No code.

@@ -1,4 +1,4 @@
--- 01, 'Refusal numbers': what each call answers and what it leaves in the buffer that it was lent, by its number.
+-- House rules, 'Refusals': what each call answers, and what it leaves in the buffer that it may alter, by its number.
 use Prim.Native.Nat.{ℕ, zero, suc}
 use mathlib.Core.Option.{Option, none, some}
 use mathlib.Core.List.{List, map}
@@ -24,7 +24,7 @@ pub record Encoded : Type 0 where
   pub marks : List (Option Mark)
   pub codewords : List ℤ
 
--- refused: the state as handed in, no recursion ending, no lag marks, the codewords that were there
+-- refused: the state as it was passed in, no ending of the recursion, no lag marks, the codewords that were there before
 unfoldable pub encode : Coder → List ℤ → List ℤ → Encoded
 encode c samples codewords =
     let t = coded c samples in
@@ -50,7 +50,8 @@ decode m codewords samples =
     (record { number = 0; state = t .0; samples = t .1 })
     (λ n. record { number = n; state = m; samples = samples })
 
--- 02, W-204: decode_alaw leaves octets where decode leaves samples. What encode_alaw answers is `encode` of the samples that the octets stand for
+-- House rules, 'A-law': decode_alaw leaves octets where decode leaves samples. What encode_alaw answers is `encode` of the samples that
+-- the octets stand for
 pub record DecodedOctets : Type 0 where
   pub number : ℕ
   pub state : Decoder

@@ -1,5 +1,5 @@
--- 4.1: the arithmetic operations, on integers. A word has 16 bits and a long word 32, in two's complement: the widths w16 and w32, of
--- which `bits` is 16 and 32 and `hbits` is 15 and 31. A width w holds the numbers from −2 ^ hbits w to 2 ^ hbits w − 1.
+-- 4.1: the arithmetic operations, on integers. A word has 16 bits and a long word has 32 bits, both in two's complement. Their widths are
+-- w16 and w32: `bits` of them is 16 and 32, `hbits` is 15 and 31. A width w holds the numbers from −2 ^ hbits w to 2 ^ hbits w − 1.
 use Prim.Native.Nat.{ℕ, suc, _*_, _-_, _/_, _%_, _^_, min}
 use mathlib.Core.Bool.{Bool, _&&_}
 use mathlib.Core.List.{List, map, zipWith, foldl}
@@ -32,7 +32,7 @@ low = keep w16
 abbrev pub up : Width → ℤ → ℕ → ℤ
 up w z n = keep w (z *ℤ pos (2 ^ n))
 
--- the same of a word, as 001 writes it
+-- the same of a word, as the standard writes it
 infixl 60 _<<_
 abbrev pub _<<_ : ℤ → ℕ → ℤ
 z << n = up w16 z n
@@ -71,7 +71,7 @@ add = plus w16
 abbrev pub sub : ℤ → ℤ → ℤ
 sub = minus w16
 
--- the clip is met by −32768 times −32768 alone, which gives 32767
+-- of two words only −32768 times −32768 needs the clip; it gives 32767
 unfoldable pub mult : ℤ → ℤ → ℤ
 mult a b = clip w16 ((a *ℤ b) >> 15)
 
@@ -81,8 +81,9 @@ mult-r a b = clip w16 ((a *ℤ b +ℤ pos 16384) >> 15)
 unfoldable pub abs : ℤ → ℤ
 abs a = clip w16 (pos (natAbs a))
 
--- the fraction n / d in 15 bits, truncated; n = d gives 32767. House rule: a zero numerator gives 0, whatever the divisor.
--- 001 asks for d ≥ n > 0. Outside, it is 32767 for n > d > 0, as 001's loop has it, and 0 for a negative n or a d that is not positive
+-- the fraction n / d in 15 bits, truncated; n = d gives 32767. House rule: a zero numerator gives 0 for every divisor.
+-- The standard asks for d ≥ n > 0. Outside of that it is 32767 for n > d > 0, as the standard's loop gives, and 0 for a negative n or for
+-- a d that is not positive
 unfoldable pub div : ℤ → ℤ → ℤ
 div (pos n) (pos d) = clip w16 (pos (n * 32768 / d))
 div (pos n) (negsuc d) = pos 0
@@ -104,11 +105,11 @@ norm z = pos (first (λ n. leb 1073741824 (natAbs z * 2 ^ n)) 31 0)
 
 -- ---- over a list
 
--- the largest size: smax in 4.2.4, dmax in 4.2.11, xmax in 4.2.15
+-- the largest absolute value: smax in 4.2.4, dmax in 4.2.11, xmax in 4.2.15
 unfoldable pub peak : List ℤ → ℤ
 peak xs = largest (map abs xs)
 
--- the sum of the products of two lists, as far as the shorter goes, from a first value on
+-- the sum of the products (by L_mult) of two lists, as many as the shorter list has elements; it starts from a given value
 unfoldable pub L-sum : ℤ → List ℤ → List ℤ → ℤ
 L-sum start a b = foldl L-add start (zipWith L-mult a b)
 

@@ -1,4 +1,4 @@
--- 4.2: the coder, its procedures in their order.
+-- 4.2: the encoder, which is called the coder here. Its procedures stand in the order of the standard.
 use mathlib.Core.List.{List, map, zip}
 use lib.IntN.{ℤ, pos, natAbs}
 use lib.ListN.{replicate}
@@ -66,7 +66,7 @@ sub-coded dp d =
     let code = xmaxc (peak xM) in
     record { codes = record { Nc = pos lag; bc = pos gain; Mc = pos m; xmaxc = code; xMc = xMc (amplitude code) xM }; search = search }
 
--- with dp after it
+-- the same, with dp after the sub-frame
 unfoldable pub sub-step : List ℤ → List ℤ → List ℤ × Subcoded
 sub-step dp d =
     let s = sub-coded dp d in
@@ -83,7 +83,7 @@ pub record Coded : Type 0 where
 unfoldable pub frame : Coded → Frame
 frame c = record { LARc = c .LARc; subframes = map (λ s. s .codes) (c .subframes) }
 
--- 160 samples: what is kept, and what is made of them
+-- of 160 samples: what the coder keeps for the next frame, and what it makes of them
 unfoldable pub coded : Coder → List ℤ → Coder × Coded
 coded c sop =
     let a = analysis c sop in

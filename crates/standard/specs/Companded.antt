@@ -1,4 +1,4 @@
--- 02, W-204, at its edges: the ends of each segment, what the calls on octets refuse and hand back.
+-- House rules, 'A-law', tried at the edges: the ends of each segment; what the calls on octets refuse and return then.
 use Prim.Native.Nat.{ℕ}
 use mathlib.Core.Path.{_≡_, refl}
 use mathlib.Core.List.{List, [], _∷_, map}
@@ -13,7 +13,7 @@ use Rattle.standard.specs.Refused.{coder-with, decoder-with}
 
 -- ---- codes and values
 
--- the codes of the first and the last step of each segment, from segment 0 on
+-- the codes of the first and of the last step of each segment, from segment 0 upwards
 unfoldable pub positive-codes : List ℕ
 positive-codes = 213 ∷ 218 ∷ 197 ∷ 202 ∷ 245 ∷ 250 ∷ 229 ∷ 234 ∷ 149 ∷ 154 ∷ 133 ∷ 138 ∷ 181 ∷ 186 ∷ 165 ∷ 170 ∷ []
 
@@ -53,7 +53,7 @@ codes = record {
   octets = refl;
 }
 
--- ---- refusals: "1 counts octets here, same place"; the lowest of several
+-- ---- refusals: 1 counts octets in these calls, and keeps its place in the order; where several apply, the lowest is given
 
 abbrev lent : ℕ → List ℤ
 lent n = replicate n (pos 0)

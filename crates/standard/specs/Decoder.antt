@@ -20,7 +20,7 @@ pub record Decoder : Type 0 where
 
 -- ---- 4.3.1, 4.3.2 RPE decoding, long term synthesis filtering
 
--- Nr: the received lag, or the remembered one where that is no lag from 40 to 120
+-- Nr: the received lag, if it lies in 40 to 120; the remembered lag otherwise
 unfoldable pub Nr : ℤ → ℤ → ℤ
 Nr nrp Ncr = cond (is-lag Ncr) Ncr nrp
 
@@ -35,7 +35,7 @@ sub-decoded (drp, nrp) f =
 
 -- ---- 4.3.4 Short term synthesis filtering section
 
--- section i, from rrp[i] and v[i − 1]: sri, and v[i] before those of the sections above
+-- section i, of rrp[i] and v[i − 1]: the next sri, and v[i] put before the v of the sections above
 unfoldable pub inverse-section : ℤ × ℤ → ℤ × List ℤ → ℤ × List ℤ
 inverse-section (rrp, v) (sri, above) =
     let out = sub sri (mult-r rrp v) in
@@ -61,7 +61,7 @@ de-emphasis msr sr =
 unfoldable pub srop : ℤ → ℤ
 srop sro = sample (add sro sro)
 
--- ---- 4.3 the whole
+-- ---- 4.3 the whole decoder: what it keeps for the next frame, and 160 samples
 
 unfoldable pub decoded : Decoder → Frame → Decoder × List ℤ
 decoded m f =

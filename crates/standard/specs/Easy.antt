@@ -1,5 +1,5 @@
--- 01, 'Easy to get wrong': the cases that tell the wrong readings from the right one. The zero frame (ZeroFrame) and the rows worked by
--- hand (Worked) tell the others.
+-- House rules, 'Wrong readings': cases that distinguish a wrong reading from the right one. The other wrong readings are distinguished by
+-- the zero frame (ZeroFrame) and by the worked rows (Worked).
 use Prim.Native.Nat.{ℕ}
 use mathlib.Core.Path.{_≡_, refl}
 use mathlib.Core.List.{List, [], _∷_, _++_}

@@ -1,4 +1,5 @@
--- Clause 4's formulas where they change their branch or meet their clip. The values were worked out on plain integers, apart from the definitions.
+-- The formulas of clause 4 at the values where they change their branch or saturate. The expected values were worked out on plain
+-- integers, independently of the definitions.
 use Prim.Native.Nat.{ℕ}
 use mathlib.Core.Path.{_≡_, refl}
 use mathlib.Core.List.{List, [], _∷_, map}
@@ -14,7 +15,7 @@ use Rattle.standard.specs.Rpe.{filtered, amplitude, xMc}
 use Rattle.standard.specs.Decoder.{de-emphasis, srop}
 use Rattle.standard.specs.Opened.{opened}
 
--- numbers, and numbers below 0
+-- positive numbers, and negative ones
 abbrev above : List ℕ → List ℤ
 above = map pos
 

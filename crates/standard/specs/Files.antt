@@ -1,4 +1,4 @@
--- 001, A3.2: files of samples and of codewords, "written in binary using 16 bit words"; 01: low byte first.
+-- Annex A3.2: files of samples and of codewords, "written in binary using 16 bit words". House rules, 'Listing': the low byte first.
 use Prim.Native.Nat.{ℕ, _+_, _*_, _/_, _%_}
 use mathlib.Core.List.{List, [], _∷_}
 use lib.IntN.{ℤ}

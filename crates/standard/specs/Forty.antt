@@ -1,4 +1,4 @@
--- 02, W-203: the lag mark where the lag is 40 and its gain code 0, tried by computation. These two codewords do not tell whether
+-- House rules, 'Marks', tried by computation where the lag is 40 and its gain code is 0. These two codewords do not tell whether
 -- anything was measured; the mark does.
 use mathlib.Core.Path.{_≡_, refl}
 use mathlib.Core.List.{List, _++_}
@@ -14,7 +14,7 @@ use Rattle.standard.specs.House.{Mark, mark, rule, found}
 use Rattle.standard.specs.Easy.{zeros, pulse}
 use Rattle.standard.specs.Opened.{opened}
 
--- a history that is silent but for a pulse 40 samples back
+-- a history of zeros, except for one pulse 40 samples back
 abbrev pub forty-back : ℤ → List ℤ
 forty-back x = zeros 80 ++ pulse x
 
@@ -35,14 +35,14 @@ abbrev pub sums : List ℤ → Subcoded → ℤ × ℤ
 sums d s = (s .search .sum, shr w32 (s .search .sum) (sub (pos 6) (scal d)))
 
 pub record Forty : Type 0 where
-  -- a true peak at 40 with a weak gain: its sum is positive, and stays so
+  -- a true peak at 40 with a weak gain: its sum is positive, before the rescaling and after it
   pub weak : shown (after (pos 20000) (pos 1000)) ≡ (pos 40, pos 0, found)
   pub weak-sums : sums (pulse (pos 1000)) (after (pos 20000) (pos 1000)) ≡ (pos 20000000, pos 625000)
-  -- a faint one: its sum is positive, and the rescaling makes it 0. Its codewords are those of silence
+  -- a faint peak: its sum is positive, and the rescaling makes it 0. Its codewords are those of silence
   pub faint : mark (after (pos 1) (pos 1)) ≡ found
   pub faint-codes : after (pos 1) (pos 1) .codes ≡ of-silence
   pub faint-sums : sums (pulse (pos 1)) (after (pos 1) (pos 1)) ≡ (pos 2, pos 0)
-  -- none: the sum at 40 is below 0, the others are 0. The same codewords
+  -- no peak: the sum at 40 is below 0, the other sums are 0. The codewords are the same
   pub none : mark (after (neg 1) (pos 1)) ≡ rule
   pub none-codes : after (neg 1) (pos 1) .codes ≡ of-silence
   pub none-sums : sums (pulse (pos 1)) (after (neg 1) (pos 1)) ≡ (pos 0, pos 0)

@@ -1,4 +1,4 @@
--- 01, 'Numbers handed over', over 001's table 1.1: samples, and the 76 codewords of a frame.
+-- House rules, 'Samples and codewords', over table 1.1 of the standard: samples, and the 76 codewords of a frame.
 use Prim.Native.Nat.{ℕ, _^_}
 use mathlib.Core.List.{List, [], _∷_, _++_, map, zipWith, flatten}
 use lib.IntN.{ℤ, pos}
@@ -31,7 +31,7 @@ sub-words s = s .Nc ∷ s .bc ∷ s .Mc ∷ s .xmaxc ∷ s .xMc
 unfoldable pub words : Frame → List ℤ
 words f = f .LARc ++ flatten (map sub-words (f .subframes))
 
--- the places at which the sub-frames start
+-- the index at which each sub-frame starts
 unfoldable pub places : List ℕ
 places = 8 ∷ 25 ∷ 42 ∷ 59 ∷ []
 
@@ -43,7 +43,7 @@ sub-widths = 7 ∷ 2 ∷ 2 ∷ 6 ∷ replicate 13 3
 unfoldable pub widths : List ℕ
 widths = LARc-widths ++ flatten (replicate 4 sub-widths)
 
--- "The decoder uses valid bits only": the low bits of each codeword, as many as its field has
+-- the valid bits, which are all that the decoder uses: the low bits of each codeword, as many as its field has
 unfoldable pub valid : List ℤ → List ℤ
 valid = zipWith (λ width c. pos (modulo c (2 ^ width))) widths
 

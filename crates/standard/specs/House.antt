@@ -1,4 +1,5 @@
--- The house's own rules: home, soundness and the refusal numbers as 01 has them, the lag mark as 02 has it.
+-- House rules, 'Home', 'Soundness', 'Marks' and 'Refusals': the state before the first frame, the states that a call takes, the mark of a
+-- lag, and the number of each refusal.
 use Prim.Native.Nat.{ℕ, _^_}
 use mathlib.Core.Bool.{Bool, false, cond, not, _&&_}
 use mathlib.Core.List.{List, [], _∷_, zipWith}
@@ -15,7 +16,7 @@ use Rattle.standard.specs.Coder.{Coder, Subcoded}
 use Rattle.standard.specs.Decoder.{Decoder}
 use Rattle.standard.specs.Packed.{spare}
 
--- ---- 'Numbers handed over': home
+-- ---- 'Home'
 
 unfoldable pub home-coder : Coder
 home-coder =
@@ -31,7 +32,7 @@ home-coder =
 unfoldable pub home-decoder : Decoder
 home-decoder = record { drp = replicate 120 (pos 0); nrp = pos 40; LARpp = replicate 8 (pos 0); v = replicate 8 (pos 0); msr = pos 0 }
 
--- ---- 'Refusal numbers': soundness
+-- ---- 'Soundness'
 
 unfoldable pub sound-coder : Coder → Bool
 sound-coder c =
@@ -40,62 +41,63 @@ sound-coder c =
 unfoldable pub sound-decoder : Decoder → Bool
 sound-decoder m = is-lag (m .nrp)
 
--- ---- the lag mark (02, W-203)
+-- ---- 'Marks' (request W-203)
 
 pub data Mark : Type 0 where
   rule : Mark
   found : Mark
 
--- "found" exactly when some lag from 40 to 120 has a positive sum before the rescaling, and "rule" otherwise. The sum of the search is the
--- greatest of these, or 0 where none is positive
+-- found exactly when some lag from 40 to 120 has a positive sum before the rescaling, and rule otherwise. The search has the greatest
+-- of these sums as its `sum`, or 0 where none is positive
 unfoldable pub mark : Subcoded → Mark
 mark s = cond (ltZ (pos 0) (s .search .sum)) found rule
 
--- ---- 'Refusal numbers': the table. A row is what is wrong, and its number
+-- ---- 'Refusals': the table. A row is a test that is true when something is wrong, and the number for it
 
--- the number of the first row that applies, or 0. The rows of a call stand lowest first: "Of several that apply, the lowest is given"
+-- the number of the first row that applies, or 0. The rows of a call stand with the lowest number first, so where several apply, the
+-- lowest number is given
 unfoldable pub refusal : List (Bool × ℕ) → ℕ
 refusal [] = 0
 refusal ((wrong, n) ∷ rows) = cond wrong n (refusal rows)
 
--- a list that has not n elements
+-- the list does not have n elements
 abbrev pub not-of : {A : Type 0} → ℕ → List A → Bool
 not-of n xs = not (eqb (length xs) n)
 
--- a codeword that fits its field
+-- a codeword fits a field of this width
 unfoldable pub fit : ℕ → ℤ → Bool
 fit width (pos n) = ltb n (2 ^ width)
 fit width (negsuc n) = false
 
--- codewords of which each does
+-- each codeword of a frame fits its field
 unfoldable pub fits : List ℤ → Bool
 fits c = every (λ b. b) (zipWith fit widths c)
 
--- samples lent are not 160
+-- the samples passed are not 160
 abbrev pub samples-row : List ℤ → Bool × ℕ
 samples-row samples = (not-of 160 samples, 1)
 
--- octets lent are not 160: "1 counts octets here, same place" (02, W-204)
+-- the octets passed are not 160: refusal 1 counts octets in the A-law calls, and keeps its place in the order ('A-law')
 abbrev pub octets-row : List ℕ → Bool × ℕ
 octets-row octets = (not-of 160 octets, 1)
 
--- codewords lent are not 76
+-- the codewords passed are not 76
 abbrev pub codewords-row : List ℤ → Bool × ℕ
 codewords-row codewords = (not-of 76 codewords, 2)
 
--- state handed in is unsound
+-- the state passed in is unsound
 abbrev pub state-row : Bool → Bool × ℕ
 state-row sound = (not sound, 3)
 
--- bytes lent are not 33
+-- the bytes passed are not 33
 abbrev pub bytes-row : List ℕ → Bool × ℕ
 bytes-row bytes = (not-of 33 bytes, 4)
 
--- some codeword is wider than its field
+-- at least one codeword does not fit its field
 abbrev pub fields-row : List ℤ → Bool × ℕ
 fields-row codewords = (not (fits codewords), 5)
 
--- a spare bit is 1
+-- one of the spare bits is set
 abbrev pub spare-row : List ℕ → Bool × ℕ
 spare-row bytes = (not (every (eqb 0) (spare bytes)), 6)
 
@@ -105,7 +107,7 @@ encode-refusal c samples codewords = refusal (samples-row samples ∷ codewords-
 unfoldable pub decode-refusal : Decoder → List ℤ → List ℤ → ℕ
 decode-refusal m codewords samples = refusal (samples-row samples ∷ codewords-row codewords ∷ state-row (sound-decoder m) ∷ [])
 
--- of decode_alaw; encode_alaw's is encode's, over the samples that the octets stand for
+-- of decode_alaw; encode_alaw has the refusals of encode, over the samples that the octets stand for
 unfoldable pub decode-alaw-refusal : Decoder → List ℤ → List ℕ → ℕ
 decode-alaw-refusal m codewords octets = refusal (octets-row octets ∷ codewords-row codewords ∷ state-row (sound-decoder m) ∷ [])
 

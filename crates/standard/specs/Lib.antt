@@ -1,3 +1,4 @@
+-- All that the specs of this crate have: clause 4 as definitions, the house rules as definitions, and computed cases of both.
 pub mod Arithmetic
 pub mod Tables
 pub mod Frame

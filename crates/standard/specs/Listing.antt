@@ -1,4 +1,4 @@
--- 01, 'The lister and its lines': the text, in bytes, that is printed of the bytes read.
+-- House rules, 'Listing': the text, in bytes, that the lister writes for the bytes that it reads.
 use Prim.Native.Nat.{ℕ, zero, suc, _+_, _*_, _/_, _%_, _^_, min}
 use Prim.Native.Char.{code}
 use Prim.Native.String.{String, [] as end, _∷_ as _then_}
@@ -46,7 +46,7 @@ mark-text found = text "found"
 
 -- ---- lines
 
--- "Fields are parted by tabs, one record a line"
+-- one record on each line, and a tab between fields
 unfoldable pub line : List (List ℕ) → List ℕ
 line [] = 10 ∷ []
 line (f ∷ []) = f ++ (10 ∷ [])
@@ -77,7 +77,7 @@ frame-bytes = 320
 abbrev pub most-frames : ℕ
 most-frames = 1000000
 
--- frames, samples left over, bytes left over after these, "end"; or "limit", when a byte follows the last frame that is read
+-- the whole frames, the samples left over, the bytes left over after these, "end"; or "limit", when a byte comes after frame 1,000,000
 unfoldable pub E-line : ℕ → List ℕ
 E-line bytes =
     cond (ltb (most-frames * frame-bytes) bytes)
@@ -86,7 +86,7 @@ E-line bytes =
 
 -- ---- the whole
 
--- the whole frames of samples, as far as the limit; left-over samples are never padded and coded
+-- the whole frames of samples, up to the limit; left-over samples are never filled up to a frame and coded
 unfoldable pub frames : List ℕ → List (List ℤ)
 frames bytes = map file-words (cut (replicate (min (length bytes / frame-bytes) most-frames) frame-bytes) bytes)
 

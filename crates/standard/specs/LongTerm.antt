@@ -23,7 +23,7 @@ back lag dp = take 40 (drop (120 - lag) dp)
 
 -- ---- 4.2.11 Calculation of the LTP parameters
 
--- the scaling of d[0..39]; as 001 has it, 6 where dmax is 0
+-- the scaling of d[0..39]; as in the standard, it is 6 where dmax is 0
 unfoldable pub scal : List ℤ → ℤ
 scal d =
     let dmax = peak d in

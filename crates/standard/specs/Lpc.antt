@@ -36,7 +36,8 @@ L-ACF s = tab (λ k. L-sum (pos 0) (drop k s) s) 0 9
 
 -- ---- 4.2.5 Computation of the reflection coefficients
 
--- how the recursion ended (01). Silent: the first sum is 0, all eight are 0. Stopped at step n: r[n] to r[8] are 0. Complete otherwise
+-- how the recursion ended (house rules, 'Endings'). Silent: the first sum is 0, and all eight coefficients are 0. Stopped at step n: r[n]
+-- to r[8] are 0. Complete: in all other cases
 pub data Ending : Type 0 where
   silent : Ending
   stopped : ℕ → Ending
@@ -87,7 +88,7 @@ r L-acf =
 
 -- ---- 4.2.6 Transformation of reflection coefficients to Log.-Area Ratios
 
--- f of the size, with the sign put back
+-- f of the absolute value, with the sign put back
 unfoldable pub with-sign : (ℤ → ℤ) → ℤ → ℤ
 with-sign f x =
     let temp = f (abs x) in
@@ -103,7 +104,7 @@ LAR = with-sign area-ratio
 
 -- ---- 4.2.7 Quantization and coding of the Log.-Area Ratios
 
--- x, or the end of the range from least to most that it has passed
+-- x, or the end of the range from least to most that x lies beyond
 unfoldable pub clamped : ℤ → ℤ → ℤ → ℤ
 clamped least most x = cond (ltZ most x) most (cond (ltZ x least) least x)
 

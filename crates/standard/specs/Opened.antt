@@ -1,4 +1,4 @@
--- What a trial computes with: every definition of this crate, opened by one name.
+-- One name, `opened`, that lets a computed case unfold every definition of this crate.
 use mathlib.Core.List.{zipWith, zip, flatten}
 use Rattle.math_lists.specs.First.{first}
 use Rattle.math_lists.specs.Best.{largest, best}

@@ -1,4 +1,4 @@
--- 01, 'Numbers handed over': the packed frame.
+-- House rules, 'Packing': the 33 bytes of a packed frame.
 use Prim.Native.Nat.{ℕ, zero, suc, _+_, _*_, _/_, _%_}
 use mathlib.Core.List.{List, [], _∷_, _++_, map, zipWith, flatten}
 use lib.IntN.{ℤ, pos, natAbs}
@@ -18,11 +18,11 @@ value (b ∷ bs) = b + 2 * value bs
 
 -- ---- packing
 
--- b1 to b260, in the order of 001's table 1.1
+-- b1 to b260, in the order of table 1.1 of the standard
 unfoldable pub frame-bits : List ℤ → List ℕ
 frame-bits words = flatten (zipWith (λ width c. bits width (natAbs c)) widths words)
 
--- "33 bytes, b1 in the lowest bit of the first byte, b9 in the lowest bit of the second"; the last four are 0
+-- 33 bytes, b1 in the lowest bit of the first byte, b9 in the lowest bit of the second, and so on; the last four bits are 0
 unfoldable pub packed : List ℤ → List ℕ
 packed words = map value (cut (replicate 33 8) (frame-bits words ++ replicate 4 0))
 
@@ -34,6 +34,6 @@ byte-bits bytes = flatten (map (bits 8) bytes)
 unfoldable pub unpacked : List ℕ → List ℤ
 unpacked bytes = map (λ b. pos (value b)) (cut widths (byte-bits bytes))
 
--- "the top 4 bits of the last byte"
+-- the spare bits: the top 4 bits of the last byte
 unfoldable pub spare : List ℕ → List ℕ
 spare bytes = drop 260 (byte-bits bytes)

@@ -1,4 +1,4 @@
--- 01, 'Refusal numbers' and the lister's words and last line, at their edges.
+-- House rules, 'Refusals', 'Soundness' and 'Listing', tried at the edges: each number, the ends of soundness, the lister's last line.
 use Prim.Native.Nat.{ℕ}
 use mathlib.Core.Path.{_≡_, refl}
 use mathlib.Core.Bool.{true, false}
@@ -18,14 +18,14 @@ use Rattle.standard.specs.Opened.{opened}
 abbrev zeros : ℕ → List ℤ
 zeros n = replicate n (pos 0)
 
--- home, but for these values
+-- home, except for these values
 abbrev pub coder-with : ℤ → ℤ → Coder
 coder-with z1 L-z2 = record { z1 = z1; L-z2 = L-z2; mp = pos 0; LARpp = zeros 8; u = zeros 8; dp = zeros 120 }
 
 abbrev pub decoder-with : ℤ → Decoder
 decoder-with nrp = record { drp = zeros 120; nrp = nrp; LARpp = zeros 8; v = zeros 8; msr = pos 0 }
 
--- of several that apply, the lowest
+-- where several apply, the lowest number is given
 pub record Refused : Type 0 where
   pub encode-1 : encode-refusal (coder-with (pos 16381) (pos 0)) (zeros 159) (zeros 75) ≡ 1
   pub encode-1-more : encode-refusal home-coder (zeros 161) (zeros 76) ≡ 1
@@ -89,7 +89,7 @@ refused = record {
   unpack-0 = refl;
 }
 
--- what a refusal hands back
+-- what a refusal returns
 pub record HandsBack : Type 0 where
   pub of-encode : encode home-coder [] (pos 1 ∷ [])
       ≡ record { number = 1; state = home-coder; ending = none; marks = replicate 4 none; codewords = pos 1 ∷ [] }

@@ -59,7 +59,7 @@ pub record Amplitude : Type 0 where
   pub mant : ℕ
 
 -- "Normalize mantissa": each step makes mant twice mant and 1, and exp one less, until mant is above 7. After n steps mant is
--- (mant + 1) · 2 ^ n − 1; a mantissa of 0, which 001 treats apart, takes four of them
+-- (mant + 1) · 2 ^ n − 1; a mantissa of 0, which the standard treats separately, takes four of them
 unfoldable pub mantissa : ℕ → ℕ → Amplitude
 mantissa exp mant =
     let n = first (λ n. leb 9 (suc mant * 2 ^ n)) 4 0 in
@@ -98,7 +98,7 @@ ep m pulses =
 
 -- ---- 4.2.18 Update of the reconstructed short term residual signal dp[−120..−1]
 
--- the 40 samples that a sub-frame adds to dp at a lag: ep and dpp added. So also drp[0..39] in 4.3.2
+-- the 40 samples that a sub-frame adds to dp at a lag: the sums of ep and dpp. They are also drp[0..39] in 4.3.2
 unfoldable pub reconstructed : ℕ → Subframe → List ℤ → List ℤ
 reconstructed lag f dp =
     let pulses = xMp (amplitude (f .xmaxc)) (f .xMc) in

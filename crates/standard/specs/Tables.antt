@@ -1,4 +1,5 @@
--- 4.4: the tables. Coefficient i of 001's tables 4.1 and 4.2, from 1 to 8, stands at place i − 1; the other tables count from 0 there too.
+-- 4.4: the tables. Coefficient i of tables 4.1 and 4.2, from 1 to 8, stands at index i − 1. The other tables count from 0 in the standard
+-- too.
 use Prim.Native.Nat.{ℕ}
 use mathlib.Core.List.{List, [], _∷_}
 use lib.IntN.{ℤ, pos, negℤ}
@@ -7,7 +8,7 @@ use lib.ListN.{getD}
 abbrev pub neg : ℕ → ℤ
 neg n = negℤ (pos n)
 
--- the entry at a place; past the end, 0
+-- the entry at an index; 0 beyond the end
 infix 80 _at_
 abbrev pub _at_ : List ℤ → ℕ → ℤ
 t at i = getD t i (pos 0)

@@ -1,4 +1,4 @@
--- 01, 'Worked by hand': all twelve rows as one statement over the definitions; and 01, 'Arithmetic', at the ends of the range.
+-- House rules, 'Worked rows': all twelve rows as one statement over the definitions; and 'Arithmetic' at the ends of the range.
 use mathlib.Core.Path.{_≡_, refl}
 use mathlib.Core.List.{List, [], _∷_}
 use lib.IntN.{ℤ, pos}
@@ -20,7 +20,7 @@ use Rattle.standard.specs.Opened.{opened}
 abbrev there-and-back : ℤ → ℤ → List ℤ
 there-and-back scale x = rescaled scale (scaled scale (x ∷ []))
 
--- the lags that are used where these are received one after the other, from home
+-- the lags that are used when these lags are received one after the other, from home
 abbrev pub lags-used : List ℤ → List ℤ
 lags-used received = run (λ nrp Ncr. let lag = Nr nrp Ncr in (lag, lag)) (home-decoder .nrp) received .1
 

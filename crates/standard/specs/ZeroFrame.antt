@@ -1,4 +1,5 @@
--- What 160 zero samples come to from home: the codewords, their 33 bytes, the lister's text of 323 zero bytes (01), the history after it.
+-- What 160 zero samples give from home: the codewords, their 33 bytes, the history after the frame; and the lister's text for 323 zero
+-- bytes (house rules, 'Listing').
 use Prim.Native.Nat.{ℕ}
 use mathlib.Core.Path.{_≡_, refl}
 use mathlib.Core.Option.{some}
@@ -22,7 +23,7 @@ unfolding flatten
 zero-frame =
     map pos (32 ∷ 32 ∷ 20 ∷ 11 ∷ 8 ∷ 5 ∷ 3 ∷ 2 ∷ flatten (replicate 4 (40 ∷ 0 ∷ 0 ∷ 0 ∷ replicate 13 4)))
 
--- 4 at places 0, 3, .., 36 of each 40, 0 elsewhere
+-- 4 at index 0, 3, .., 36 of each 40, and 0 elsewhere
 unfoldable pub zero-history : List ℤ
 unfolding flatten
 zero-history = map pos (flatten (replicate 3 (flatten (replicate 13 (4 ∷ 0 ∷ 0 ∷ [])) ++ (0 ∷ []))))
