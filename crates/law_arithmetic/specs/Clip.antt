@@ -17,7 +17,7 @@ clip-is w (negsuc n) = omega (arith, pow-pos (hbits w))
 pub clip-fits : (w : Width) (z : ℤ) → SFits w (clip w z)
 clip-fits w z = omega (zar, clip-is w z, pow-pos (hbits w))
 
--- a clip that is not met
+-- where z is in the range, the clip does nothing
 pub clip-plain : {w : Width} {z : ℤ} → SFits w z → clip w z ≡ z
 clip-plain {w} {z} f = omega (zar, clip-is w z, know f)
 

@@ -1,4 +1,4 @@
--- div: its value by case, its range, and that 001's loop computes it.
+-- div: its value by case, its range, and that the loop of the standard computes it.
 use Prim.Native.Nat.{ℕ, zero, suc, _+_, _*_, _-_, _/_, _^_, _<_, _≤_}
 use mathlib.Core.Path.{_≡_, refl, ap, _∙_}
 use mathlib.Core.Bool.{true, cond}
@@ -30,7 +30,7 @@ above n d h g =
     let m : 32768 * d ≤ n * 32768 = omega arith in
     omega (zar, clip-is w16 (pos (n * 32768 / d)), le-div-iff-mul-le h .1 m)
 
--- house rule: a zero numerator gives 0, whatever the divisor
+-- house rules, 'Arithmetic': a zero numerator gives 0, for every divisor
 pub div-zero : (n d : ℤ) → leZ n (pos 0) ≡ true → div n d ≡ pos 0
 unfolding div
 div-zero (pos n) (pos d) e = let z : n ≡ 0 = omega zar in rw z (omega (zar, clip-is w16 (pos (0 / d)), zero-div d))
@@ -43,7 +43,7 @@ div-by-none (pos n) (pos d) e = let z : d ≡ 0 = omega zar in rw z (omega (zar,
 div-by-none (pos n) (negsuc d) e = refl
 div-by-none (negsuc n) d e = refl
 
--- a whole 1, as at n = d, and all above it
+-- n = d, and all n above d, give 32767
 pub div-whole : (n d : ℤ) → ltZ (pos 0) d ≡ true → leZ d n ≡ true → div n d ≡ pos 32767
 div-whole (pos n) (pos d) h g = above n d (omega zar) (omega zar)
 div-whole (pos n) (negsuc d) h g = absurd (omega zar)
@@ -68,7 +68,7 @@ div-fits n d = omega (zar, div-is n d)
 
 -- ---- 4.2.5, note: one correct implementation
 
--- k turns more, from L_num and the quotient so far
+-- k more iterations, from L_num and the quotient so far
 unfoldable pub loop : ℕ → ℕ → ℕ → ℕ → ℕ
 loop zero num q d = q
 loop (suc k) num q d = loop k (cond (leb d (2 * num)) (2 * num - d) (2 * num)) (cond (leb d (2 * num)) (2 * q + 1) (2 * q)) d
@@ -82,7 +82,7 @@ module _ (k num q d : ℕ) where
   unfolding loop
   turn-no h = rw (lt-leb d (2 * num) h) refl
 
--- a turn's arithmetic, with p for 2 ^ k and x for what is left of the numerator
+-- the arithmetic of one iteration, with p for 2 ^ k and x for what is left of the numerator
 taken : (num q d p x : ℕ) → 0 < d → x + d ≡ 2 * num → (2 * q + 1) * p + (x * p) / d ≡ q * (2 * p) + (num * (2 * p)) / d
 taken num q d p x h e =
     let n : num * (2 * p) ≡ x * p + d * p = omega (arith, ap (λ (y : ℕ). y * p) e) in
@@ -91,7 +91,7 @@ taken num q d p x h e =
 left : (num q d p : ℕ) → 2 * q * p + (2 * num * p) / d ≡ q * (2 * p) + (num * (2 * p)) / d
 left num q d p = let n : num * (2 * p) ≡ 2 * num * p = omega arith in rw n (omega arith)
 
--- below the divisor, k turns add the first k bits of the fraction
+-- from a numerator below the divisor, k iterations add the first k bits of the fraction
 loop-below : (k num q d : ℕ) → num < d → loop k num q d ≡ q * 2 ^ k + (num * 2 ^ k) / d
 unfolding loop
 loop-below zero num q d h = rw (mul-one num, div-eq-of-lt h) (omega arith)
@@ -104,7 +104,7 @@ loop-below (suc k) num q d h = rw (pow-succ' 2 k) (by (λ m p. loop-below k m p 
         ∙ (ih (2 * num - d) (2 * q + 1) (omega arith) ∙ taken num q d (2 ^ k) (2 * num - d) (omega arith) (omega arith))
     by ih (inr g) = turn-no k num q d g ∙ (ih (2 * num) (2 * q) g ∙ left num q d (2 ^ k))
 
--- at the divisor, each turn adds a 1
+-- from a numerator equal to the divisor, each iteration adds a 1
 loop-same : (k q d : ℕ) → loop k d q d + 1 ≡ (q + 1) * 2 ^ k
 unfolding loop
 loop-same zero q d = omega arith
@@ -112,7 +112,7 @@ loop-same (suc k) q d =
     let s : 2 * d - d ≡ d = omega arith in
     rw (turn-yes k d q d (omega arith), s, pow-succ' 2 k) (omega (arith, loop-same k (2 * q + 1) d))
 
--- the fifteen turns of the note, for denum ≥ num > 0
+-- the fifteen iterations of the note give div, for denum ≥ num > 0
 pub div-loop : (num denum : ℕ) → 0 < num → num ≤ denum → div (pos num) (pos denum) ≡ pos (loop 15 num 0 denum)
 div-loop num denum p h =
     ⊎-elim

@@ -1,4 +1,5 @@
--- norm of a positive long word: it brings the value into its interval, no smaller shift does, and the count of leading zeros tells it.
+-- norm of a positive long word: this left shift brings the value to 2 ^ 30 or more, no smaller one does, and it is the count of leading
+-- zeros less 1.
 use Prim.Native.Nat.{ℕ, suc, _+_, _*_, _-_, _^_, _<_, _≤_}
 use mathlib.Core.Path.{_≡_, ap, _∙_}
 use mathlib.Core.Bool.{true}
@@ -18,7 +19,7 @@ use Rattle.math_lists.specs.First.{first-unique, first-le}
 use Rattle.standard.specs.Arithmetic.{norm, shl}
 use Rattle.law_arithmetic.specs.Shift.{shl-exact}
 
--- what norm tells of z: its shifts, that they bring |z| to the interval from 2 ^ 30 to 2 ^ 31 − 1, and that fewer do not
+-- what norm says of z: the number of shifts, that they bring |z| to 2 ^ 30 up to 2 ^ 31 − 1, and that fewer shifts do not
 pub record Normal (z : ℤ) : Type 0 where
   pub shifts : ℕ
   pub is : norm z ≡ pos shifts
@@ -61,7 +62,7 @@ normal z p f = go (leading-top 32 (natAbs z) (omega (zar, know f)) (omega (zar, 
           counted = omega arith;
         }
 
--- the shift by norm z loses nothing of z, nor of anything no larger
+-- the shift by norm z loses nothing of z, nor of any number that is not larger in size
 pub norm-exact : {z : ℤ} (n : Normal z) (y : ℤ) → natAbs y ≤ natAbs z → shl w32 y (norm z) ≡ y *ℤ pos (2 ^ n .shifts)
 norm-exact {z} n y h =
     let m = n .shifts in

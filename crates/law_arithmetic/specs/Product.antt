@@ -1,4 +1,4 @@
--- mult, mult_r and L_mult: their ranges, and that no clip is met but by the two least words.
+-- mult, mult_r and L_mult: their ranges, and that they saturate for −32768 times −32768 only.
 use Prim.Native.Nat.{ℕ, _+_, _*_, _<_, _≤_}
 use mathlib.Core.Logic.{⊎-elim}
 use mathlib.Core.Path.{_≡_, ap}
@@ -24,12 +24,12 @@ module _ (a b : ℤ) where
   unfolding L-mult
   L-mult-fits = clip-fits w32 (a *ℤ b +ℤ a *ℤ b)
 
-  -- mult_r gives the same either way round
+  -- mult_r gives the same with its operands exchanged
   pub mult-r-turned : mult-r a b ≡ mult-r b a
   unfolding mult-r
   mult-r-turned = ap (λ (z : ℤ). clip w16 ((z +ℤ pos 16384) >> 15)) (*ℤ-comm a b)
 
-  -- a product within B · 32768 comes out within B
+  -- where the product is at most B · 32768 in size, the result is at most B
   module _ (B : ℕ) (h : P (a *ℤ b) + N (a *ℤ b) ≤ B * 32768) where
     pub mult-in : P (mult a b) + N (mult a b) ≤ B
     unfolding mult
@@ -41,12 +41,12 @@ module _ (a b : ℤ) where
         let y = a *ℤ b +ℤ pos 16384 in
         omega (arith, apart (mult-r a b), add-is (a *ℤ b) (pos 16384), shr-is y 32768 (omega arith), clip-is w16 (y >> 15))
 
-  -- and its double within twice its bound
+  -- and L_mult of a product of size at most B is at most 2 · B
   pub L-mult-in : (B : ℕ) → P (a *ℤ b) + N (a *ℤ b) ≤ B → P (L-mult a b) + N (L-mult a b) ≤ B + B
   unfolding L-mult
   L-mult-in B h = omega (arith, apart (L-mult a b), add-is (a *ℤ b) (a *ℤ b), clip-is w32 (a *ℤ b +ℤ a *ℤ b))
 
-  -- of two words that are not both the least
+  -- two words that are not both −32768
   module _ (f : SFits w16 a) (g : SFits w16 b) (h : N a + N b < 65536) where
     below : P (a *ℤ b) + N (a *ℤ b) ≤ 1073709056
     below =

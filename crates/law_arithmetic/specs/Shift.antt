@@ -24,7 +24,7 @@ use Rattle.standard.specs.Arithmetic.{modulo, keep, up, _>>_, shr, shl}
 pub down-bits : (w : Width) (z : ℤ) (n : ℕ) → SFits w z → mem w (mem w z >> n) ≡ z >> n
 down-bits w z n f = rw (back f) (back (shr-fits (2 ^ n) f))
 
--- a shift by all the bits but the sign, or by more
+-- a shift by all bits except the sign, or by more, leaves the sign only
 pub down-all : (w : Width) (z : ℤ) (n : ℕ) → SFits w z → hbits w ≤ n → z >> n ≡ z >> hbits w
 down-all w (pos a) n f h = ap pos (div-eq-of-lt (omega (arith, f .sfits, pow-mono h)) ∙ sym (div-eq-of-lt (f .sfits)))
 down-all w (negsuc a) n f h = ap negsuc (div-eq-of-lt (omega (arith, f .sfits, pow-mono h)) ∙ sym (div-eq-of-lt (f .sfits)))
@@ -40,7 +40,7 @@ down-in z n B = shr-in z (2 ^ n) B (pow-pos n)
 
 -- ---- to the left
 
--- the low part of −y, from a number that makes a multiple of M with y
+-- the low part of −y, from a number whose sum with y is a multiple of M
 modulo-neg : (M X y m : ℕ) → 0 < M → X + y ≡ m * M → X % M ≡ modulo (negℤ (pos y)) M
 unfolding modulo
 modulo-neg M X zero m h e = let x : X ≡ m * M = omega arith in rw x (mul-mod-left m M ∙ sym (zero-mod M))
@@ -52,7 +52,7 @@ modulo-neg M X (suc q) m h e =
     let x : X ≡ (m - suc (q / M)) * M + (M - suc (q % M)) = omega (arith, ap (λ (k : ℕ). k * M) a) in
     rw x (digits-mod (m - suc (q / M)) (omega arith))
 
--- a multiple of m that makes a number positive leaves its low part
+-- adding a multiple of m that makes a number positive does not change its low part
 pub modulo-raised : (z : ℤ) (m k : ℕ) → 0 < m → N z ≤ k * m → modulo z m ≡ natAbs (z +ℤ pos (k * m)) % m
 unfolding modulo
 modulo-raised (pos n) m k h l = sym (add-mul-mod-self-right n k m)
@@ -69,7 +69,7 @@ up-bits w (negsuc a) n f =
     let m = 2 ^ bits w in
     ap (toZ w) (modulo-neg m ((m - suc a) * 2 ^ n) (suc a * 2 ^ n) (2 ^ n) (pow-pos (bits w)) (omega (arith, ap (λ (k : ℕ). k * 2 ^ n) b)))
 
--- a shift by the whole width, or by more
+-- a shift by the whole width, or by more, leaves 0
 pub up-all : (w : Width) (z : ℤ) (n : ℕ) → SFits w z → bits w ≤ n → up w z n ≡ pos 0
 up-all w z n f h = sym (up-bits w z n f) ∙ (ap (toZ w) gone ∙ toZ-pos w (pow-pos (hbits w)))
   where
@@ -119,7 +119,7 @@ module _ (w : Width) (x : ℤ) where
   shl-left (pos n) e = refl
   shl-left (negsuc n) e = absurd (omega zar)
 
-  -- the range of either
+  -- the result of either shift is in the range
   pub shr-word : (n : ℤ) → SFits w x → SFits w (shr w x n)
   unfolding shr
   shr-word (pos n) f = shr-fits (2 ^ n) f
@@ -144,7 +144,7 @@ shr-zero w (negsuc n) =
     let f : SFits w (pos 0) = omega (zar, pow-pos (hbits w)) in
     ap (λ (k : ℕ). keep w (pos k)) z ∙ keep-plain f
 
--- ---- the low word of a long word, as the code extracts it: up to the top and back
+-- ---- the low word of a long word, as the code extracts it: shifted left by 16, and then right by 16
 
 -- the low part of a number scaled up by c is that of the number, scaled up
 pub modulo-scaled : (z : ℤ) {m c : ℕ} → 0 < m → 0 < c → modulo (z *ℤ pos c) (m * c) ≡ modulo z m * c

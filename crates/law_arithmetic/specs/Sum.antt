@@ -1,4 +1,5 @@
--- A sum of bounded terms: it stays within its bound at every step, so a clipping sum that has room is the plain one.
+-- A sum of bounded terms: it stays within its bound at every step. So where the bound is within the range, the saturating sum is the plain
+-- sum.
 use Prim.Native.Nat.{ℕ, suc, _+_, _*_, _^_, _<_, _≤_}
 use mathlib.Core.Path.{_≡_, refl, ap, _∙_}
 use mathlib.Core.List.{List, [], _∷_, foldl}
@@ -14,14 +15,14 @@ use Rattle.math_lists.specs.Cut.{sum, rest-sum}
 use Rattle.standard.specs.Arithmetic.{plus}
 use Rattle.law_arithmetic.specs.Clip.{plus-plain}
 
--- each term is within the bound at its place
+-- each term is within the bound at its index
 infixr 20 _also_
 pub data Bounded : List ℤ → List ℕ → Type 0 where
   none : Bounded [] []
   _also_ : {x : ℤ} {b : ℕ} {xs : List ℤ} {bs : List ℕ} → natAbs x ≤ b → Bounded xs bs → Bounded (x ∷ xs) (b ∷ bs)
 
 module _ (w : Width) where
-  -- one more term has room, and keeps the bound
+  -- one more term does not saturate, and keeps the bound
   next : (C b : ℕ) (s x : ℤ) → natAbs s ≤ C → natAbs x ≤ b → C + b < 2 ^ hbits w → (plus w s x ≡ s +ℤ x) × (natAbs (plus w s x) ≤ C + b)
   next C b s x h k r =
       let e : plus w s x ≡ s +ℤ x = plus-plain s x (omega (zar, add-is s x, abs-is s, abs-is x)) in

@@ -1,4 +1,4 @@
--- What the test of a range says, for `omega`: the order, and of a range from −a to b the two halves; a word's range.
+-- What the test of a range says, for `omega`: the order; for a range from −a to b also the two halves; and the range of a word.
 use Prim.Native.Nat.{ℕ, _<_, _≤_}
 use mathlib.Core.Path.{_≡_}
 use mathlib.Core.Bool.{Bool, true, and-eq-true-iff}

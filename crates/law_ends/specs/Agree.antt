@@ -1,4 +1,4 @@
--- A coder and a decoder that agree, agree after a frame: both reconstruct the residual from the same codewords.
+-- A coder and a decoder that agree before a frame agree after it, because both reconstruct the residual from the same codewords.
 use mathlib.Core.Path.{_≡_, refl, sym, ap, _∙_}
 use mathlib.Core.Bool.{true}
 use mathlib.Core.List.{List, [], _∷_, map}
@@ -25,7 +25,7 @@ lag-used : (nrp Ncr : ℤ) → is-lag Ncr ≡ true → Nr nrp Ncr ≡ Ncr
 unfolding Nr
 lag-used nrp Ncr h = rw h
 
--- so from one history both ends come to one, whatever lag the decoder remembers
+-- so from the same history both ends get the same next history, whatever lag the decoder remembers
 same-step : (dp d : List ℤ) (nrp : ℤ) → sub-decoded (dp, nrp) (sub-step dp d .1 .codes) .0 .0 ≡ sub-step dp d .0
 unfolding sub-decoded sub-step
 same-step dp d nrp = rw (lag-used nrp _ (sub-coded-within dp d))

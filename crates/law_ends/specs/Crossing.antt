@@ -1,5 +1,5 @@
--- A call from C is one of those that the demands speak of: what crosses is an answer that keeps encode's promise, in numbers. (The other
--- calls promise the same from C as inside.)
+-- A call of encode from C is one of the calls that the demands speak of: what C gets is an answer that keeps encode's promise, written in
+-- numbers. (The other calls promise the same to C as inside.)
 use mathlib.Core.Path.{_≡_, refl, sym, _∙_}
 use mathlib.Core.List.{List}
 use lib.IntN.{ℤ}
@@ -20,7 +20,7 @@ module _ (e : Encoder) (samples lent : List ℤ) (b : EncodeAnswer) (left : List
   pub inside-keeps : Encodes e samples lent inside left
   inside-keeps = rw (p .codewords) (encode-can e samples lent)
 
-  -- and what crosses is this answer
+  -- and what C gets is this answer
   pub inside-crosses : b ≡ encode-answer (inside .number) (coder (inside .state)) (ending (inside .ending)) (marks (inside .marks))
   inside-crosses =
       let c = encode-can e samples lent in

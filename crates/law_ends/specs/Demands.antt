@@ -1,4 +1,5 @@
--- Demands 1 and 2, of any outcome that keeps a call's promise; demand 3 is `together`. That every call ends is no statement: the check itself refuses a function that might not.
+-- Demands 1 and 2 (house rules, 'What counts as shown'), for any outcome that keeps a call's promise; demand 3 is `together`. That every
+-- call ends has no statement here: the check itself refuses a function that might not end.
 use Prim.Native.Nat.{ℕ, suc, _<_}
 use mathlib.Core.Path.{_≡_, sym, ap, _∙_}
 use mathlib.Core.Option.{none, some}
@@ -38,14 +39,14 @@ use Rattle.packing.specs.Promise.{Packs, packing-refused, Unpacks, unpacking-re
 
 -- ---- encode
 
--- 02, W-203: sub-frame i, from 0 on, of a frame has a mark, which tells what was found in the history before it over its own 40 samples of d,
--- and of its codewords as they are received
+-- house rules, 'Marks': sub-frame i of a frame, counted from 0, has a mark. The mark tells what the search found for its 40 samples of d in
+-- the history before it, and what that means for its codewords as they are received
 abbrev pub Marked : Coder → List ℤ → Marks → List ℤ → ℕ → Type 0
 Marked c samples ms left i =
     (m : house.Mark) × (getD (marks ms) i none ≡ some m)
     × ((z : Subframe) → Told m (history c samples i) (part c samples i) (getD (received left .subframes) i z))
 
--- what is read off each sub-frame of a frame, read at sub-frame i
+-- a value g of each sub-frame of a frame, at sub-frame i
 read-at : (c : Coder) (samples : List ℤ) (i : ℕ) → i < 4 → {B : Type 0} (g : Subcoded → B) (z : B)
     → getD (map g (coded c samples .1 .subframes)) i z ≡ g (sub-coded (history c samples i) (part c samples i))
 read-at c samples i l g z =
@@ -54,15 +55,15 @@ read-at c samples i l g z =
     map-at g (coded c samples .1 .subframes) i s z n ∙ ap g (subframe-is c samples i s l)
 
 module _ (e : Encoder) (samples lent : List ℤ) (a : Encoded) (left : List ℤ) (p : Encodes e samples lent a left) where
-  -- demand 1: 1, 2 and 3 exactly when 01 says, the lowest of several, and 0 exactly when nothing is wrong
+  -- demand 1: 1, 2 and 3 exactly when the house rules say ('Refusals'), the lowest of several, and 0 exactly when nothing is wrong
   pub encode-refuses : Exactly (a .number) 160 76 1 2 3 samples lent (sound-coder (coder e))
   encode-refuses = rw (encoder-calls.number-is e samples lent a left p) (encode-exactly (coder e) samples lent)
 
-  -- a refusal hands back the state as it was, no ending, no marks, and writes nothing
+  -- a refusal returns the state as it was, no ending and no marks, and writes nothing
   pub encode-hands-back : (n : ℕ) → a .number ≡ suc n → (a ≡ encoder.refused (suc n) e) × (left ≡ lent)
   encode-hands-back n h = encoder.one-refusal e samples lent n (sym (encoder-calls.number-is e samples lent a left p) ∙ h) a left p
 
-  -- demand 2: else the state, the 76 codewords, the ending and the marks are those of 4.2
+  -- demand 2: otherwise the state, the 76 codewords, the ending and the marks are those of the definitions (4.2)
   pub encode-equals : a .number ≡ 0 → let t = coded (coder e) samples in
       (coder (a .state) ≡ t .0) × (left ≡ words (frame (t .1)))
       × (ending (a .ending) ≡ some (t .1 .ending)) × (marks (a .marks) ≡ map (λ s. some (house.mark s)) (t .1 .subframes))
@@ -84,7 +85,7 @@ module _ (e : Encoder) (samples lent : List ℤ) (a : Encoded) (left : List ℤ)
       let mark = ap (λ x. getD x i none) ms ∙ read-at (coder e) samples i l (λ s. some (house.mark s)) none in
       (house.mark (sub-coded dp d), mark, λ z. rw (sent z) (told dp d))
 
--- encode_alaw: all of this over the samples that the octets stand for; the first number counts octets
+-- encode_alaw: the same over the samples that the octets stand for; number 1 counts octets
 module _ (e : Encoder) (octets : List ℕ) (lent : List ℤ) (a : Encoded) (left : List ℤ)
     (p : Encodes e (alaw-samples octets) lent a left) where
   pub encode-alaw-refuses : Exactly (a .number) 160 76 1 2 3 octets lent (sound-coder (coder e))
@@ -123,7 +124,7 @@ module _ (m : Decoder) (codewords : List ℤ) (lent : List ℕ) (a : Decoded) (l
   is-decode-alaw's : a .number ≡ decode-alaw-refusal (memory m) codewords lent
   is-decode-alaw's = p .number ∙ decode-alaw-number (memory m) codewords lent
 
-  -- demand 1, where the first number counts octets
+  -- demand 1, where number 1 counts octets
   pub decode-alaw-refuses : Exactly (a .number) 160 76 1 2 3 lent codewords (sound-decoder (memory m))
   decode-alaw-refuses = rw is-decode-alaw's (decode-alaw-exactly (memory m) codewords lent)
 
@@ -137,7 +138,8 @@ module _ (m : Decoder) (codewords : List ℤ) (lent : List ℕ) (a : Decoded) (l
       let d = decode-alaw-done (memory m) codewords lent (sym is-decode-alaw's ∙ h) in
       (rw d at (p .state), rw d at (p .octets))
 
-  -- the two decodes agree: from one state and one frame, lent as much, they have one answer, and the octets are those of the samples
+  -- the two decodes agree: from the same state and frame, with as many octets as samples, they give the same answer, and the octets are
+  -- those of the samples
   pub octets-of-samples : (samples : List ℤ) (b : Decoded) (heard : List ℤ)
       → length lent ≡ length samples → Decodes m codewords samples b heard
       → (a ≡ b) × (a .number ≡ 0 → left ≡ alaw-octets heard)

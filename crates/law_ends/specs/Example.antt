@@ -1,4 +1,5 @@
--- Demand 3 is not empty: calls that meet what is asked, and what they come to, computed; and calls that do not, after which the ends are apart.
+-- Demand 3 is not empty: calls that meet its condition, with what they give, computed; and calls that do not, after which the two ends
+-- differ.
 use Prim.Native.Nat.{ℕ}
 use mathlib.Core.Path.{_≡_, refl, ap}
 use native.Mathlib.Nat.{suc-ne-zero}
@@ -73,8 +74,8 @@ idle-frame =
 abbrev home : Ends
 home = at-home (encoder-of home-coder) (decoder-of home-decoder)
 
--- the pulses are coded; a decode_alaw into 159 octets is refused; the frame is handed over with its stray bits, and heard as octets; an
--- encode into 75 codewords is refused; octets of an idle line are coded; their frame is handed over, and heard as samples
+-- the pulses are coded; a decode_alaw into 159 octets is refused; the frame is handed over with its stray bits, and decoded to octets; an
+-- encode into 75 codewords is refused; octets of an idle line are coded; their frame is handed over, and decoded to samples
 abbrev pub asks : List Ask
 asks =
     encode pulses (zeros 76) ∷ decode-alaw (zeros 76) (idle 159) ∷ decode-alaw strayed (idle 160)
@@ -85,7 +86,7 @@ pub numbers : map number (calls home asks) ≡ 0 ∷ 1 ∷ 0 ∷ 2 ∷ 0 ∷ 0 �
 unfolding opened calls call after number coder memory pulses strayed idle-frame
 numbers = refl
 
--- these calls meet what is asked
+-- these calls meet the condition
 pub meets : along Handed home (calls home asks)
 unfolding opened along calls call after Handed coder memory pulses strayed idle-frame
 meets = (λ _. refl, (λ n. absurd (suc-ne-zero 0 n), (λ _. refl, (λ _. refl, (λ _. refl, (λ _. refl, tt))))))
@@ -100,18 +101,18 @@ pub loudest : peak (answers.encode home-coder pulses (zeros 76) .state .dp) ≡ 
 unfolding opened pulses
 loudest = refl
 
--- ---- what is asked is needed
+-- ---- the condition is needed
 
 -- the first frame is never handed over
 abbrev pub lost : List Ask
 lost = encode pulses (zeros 76) ∷ encode (zeros 160) (zeros 76) ∷ decode second-frame (zeros 160) ∷ []
 
--- so the second encode breaks what is asked
+-- so the second encode breaks the condition
 pub breaks : ¬ along Handed home (calls home lost)
 unfolding opened along calls call after Handed coder memory pulses second-frame
 breaks h = Option·some-ne-none _ (h .1 .0 refl)
 
--- and the ends are apart: of their histories the second sample is −31 at one end and 0 at the other
+-- and the ends differ: the second sample of the history is −31 at one end and 0 at the other
 pub apart : ¬ along Shown home (calls home lost)
 unfolding opened along calls call after Shown coder memory pulses second-frame
 apart s = suc-ne-zero 30 (ap (λ l. natAbs (l at 1)) (s .1 .1 .0 refl .0))

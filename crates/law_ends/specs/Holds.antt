@@ -26,13 +26,13 @@ unfoldable pub caught-up : Decoder → Option (List ℤ) → Decoder
 caught-up m none = m
 caught-up m (some sent) = decoded m (received sent) .0
 
--- the coder is what it is by its types and sound, and agrees with the decoder that is to come
+-- the coder is as its types say and sound, and it agrees with the decoder that has decoded the frame that waits
 pub record Holds (c : Coder) (m : Decoder) (waiting : Option (List ℤ)) : Type 0 where
   pub carried : Carried c
   pub sound : sound-coder c ≡ true
   pub agree : Agree c (caught-up m waiting)
 
--- so at home, where no frame waits
+-- it holds at home, where no frame waits
 pub home-holds : Holds home-coder home-decoder none
 unfolding caught-up home-coder home-decoder
 home-holds = record { carried = home-carried; sound = home-coder-sound; agree = record { history = refl; ratios = refl } }
@@ -76,7 +76,7 @@ module _ (c : Coder) (m : Decoder) (waiting : Option (List ℤ)) (samples codewo
 
 -- ---- decode
 
--- the decoder that catches up has decoded the frame that is handed over, whatever stands beside its valid bits
+-- the decoder that has decoded the waiting frame is the one that decodes the frame handed over, whatever bits stand beside the valid ones
 caught : (m : Decoder) (waiting : Option (List ℤ)) (codewords : List ℤ) → Option·map valid waiting ≡ some (valid codewords)
     → caught-up m waiting ≡ decoded m (received codewords) .0
 unfolding caught-up

@@ -1,3 +1,4 @@
+-- All that the specs of this crate have: the three demands, that they can be met, and that useless versions do not meet them.
 pub mod Agree
 pub mod Holds
 pub mod Together

@@ -1,4 +1,4 @@
--- Each promise can be kept, whatever is handed in: by the answer of the definitions, in the types of the code.
+-- Each promise can be kept, whatever is passed in: the answer of the definitions, written in the types of the code, keeps it.
 use Prim.Native.Nat.{ℕ}
 use native.Mathlib.Omega.{arith}
 use mathlib.Core.Path.{_≡_, refl}
@@ -24,7 +24,7 @@ use Rattle.law_ends.specs.Together.{Call, encodes, encodes-alaw, decodes
 
 -- ---- encode
 
--- an ending stands for what it was made of
+-- an ending of the definitions, written in the type of the code, stands for the same ending
 ending-stands : (o : Option lpc.Ending) → ending (ending-of o) ≡ o
 unfolding ending
 ending-stands none = refl
@@ -90,7 +90,7 @@ module _ (d : Decoder) (codewords samples : List ℤ) where
   unfolding memory
   decode-can = record { number = refl; state = refl; samples = refl }
 
--- ---- decode_alaw; what keeps encode_alaw's promise is what keeps encode's, over the samples that the octets stand for
+-- ---- decode_alaw. (encode_alaw's promise is encode's, over the samples that the octets stand for)
 
 module _ (d : Decoder) (codewords : List ℤ) (octets : List ℕ) where
   abbrev decoded-alaw : answers.DecodedOctets
@@ -146,7 +146,7 @@ call-made t (encode-alaw octets codewords) w = encode-can (t .encoder) (alaw-sam
 call-made t (decode codewords samples) w = decode-can (t .decoder) codewords samples
 call-made t (decode-alaw codewords octets) w = decode-alaw-can (t .decoder) codewords octets
 
--- so whatever is asked for, and from whatever states, there are calls of which demand 3 speaks
+-- so for any calls that are asked for, and from any states, there are calls that demand 3 speaks of
 pub calls-made : (t : Ends) (asks : List Ask) → every of-words asks ≡ true → along Made t (calls t asks)
 unfolding calls along
 calls-made t [] w = tt

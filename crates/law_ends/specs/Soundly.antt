@@ -1,4 +1,5 @@
--- Demand 1 over any sequence of calls, handed over rightly or not: a state that came from home, or from a sound one, is never refused.
+-- Demand 1 over any sequence of calls, whether frames are handed over in order or not: a state that came from home, or from a sound state,
+-- is never refused as unsound.
 use Prim.Native.Nat.{ℕ}
 use mathlib.Core.Path.{_≡_}
 use mathlib.Core.Bool.{Bool, true}
@@ -46,7 +47,7 @@ not-third n l m xs ys good x g e =
     (λ p. let first = x .first (eqb-false (length xs) l p) in absurd (omega arith))
     (either (eqb (length xs) l))
 
--- a call does not give it
+-- so no call gives 3
 not-3 : (t : Ends) → Sound t → (c : Call) → Made t c → ¬ (number c ≡ 3)
 unfolding Made number
 not-3 t s (encodes samples codewords a left) (p, w) =
@@ -58,7 +59,7 @@ not-3 t s (decodes codewords samples a left) p =
 not-3 t s (decodes-alaw codewords octets a left) p =
     not-third (a .number) 160 76 octets codewords _ (decode-alaw-refuses (t .decoder) codewords octets a left p) (s .decoder)
 
--- and hands back sound states
+-- and each call returns sound states
 still-sound : (t : Ends) → Sound t → (c : Call) → Made t c → Sound (after t c)
 unfolding Made after
 still-sound t s (encodes samples codewords a left) (p, w) =

@@ -1,14 +1,15 @@
 -- Demand 3: both ends stay together.
 --
--- Take any finite sequence of calls of encode and decode, on samples or on octets of A-law, in any order and on any buffers, from home at
--- both ends; calls that are refused may stand anywhere in it. The samples of octets are those that they stand for.
+-- Take any finite sequence of calls of encode and decode, on samples or on octets of A-law, in any order and on any buffers. Both ends
+-- start from home. Refused calls may stand anywhere in the sequence. The samples of octets are those that the octets stand for.
 -- If (`Handed`)
 --   no frame is coded while the one before it still waits to be handed over, and
 --   what is decoded is the frame that waits, its valid bits intact, whatever the other bits are,
 -- then (`Shown`)
---   every codeword of every frame fits its field, every lag is from 40 to 120, and none of the six sums meets its limit at any step;
+--   every codeword of every frame fits its field, every lag is from 40 to 120, and none of the six sums saturates at any step;
 --   after each frame that was handed over both ends hold the same 120 residual samples and the same eight decoded ratios.
--- A call that breaks the condition is not covered, nor are those after it. The calls before it are a sequence of their own, and they are.
+-- A call that breaks the condition is not covered, nor are the calls after it. The calls before it are covered: they are a sequence of
+-- their own.
 use Prim.Native.Nat.{ℕ}
 use mathlib.Core.Path.{_≡_}
 use mathlib.Core.Bool.{true}
@@ -32,20 +33,20 @@ use Rattle.decoder.specs.declared.Decoded.{Decoded}
 use Rattle.decoder.specs.Promise.{memory, Decodes, DecodesAlaw, octets-decode}
 use Rattle.law_ends.specs.Holds.{Holds, home-holds, encode-holds, encode-shows, decode-holds, decode-shows}
 
--- a call as it was made: the two buffers lent, the answer, and what was left in the one that it may alter
+-- a call as it was made: the two buffers passed, the answer, and what was left in the buffer that the call may alter
 pub data Call : Type 0 where
   encodes : (samples codewords : List ℤ) (a : Encoded) (left : List ℤ) → Call
   encodes-alaw : (octets : List ℕ) (codewords : List ℤ) (a : Encoded) (left : List ℤ) → Call
   decodes : (codewords samples : List ℤ) (a : Decoded) (left : List ℤ) → Call
   decodes-alaw : (codewords : List ℤ) (octets : List ℕ) (a : Decoded) (left : List ℕ) → Call
 
--- both ends, and the frame that was returned and that is not handed over yet
+-- both ends, and the frame that was returned and is not yet handed over
 pub record Ends : Type 0 where
   pub encoder : Encoder
   pub decoder : Decoder
   pub waiting : Option (List ℤ)
 
--- after a call: the state that it hands back; a frame waits once it is coded, and no longer once one is decoded
+-- after a call: the state that it returns; a frame waits once it is coded, and none waits once a frame is decoded
 abbrev pub sent : Ends → Encoded → List ℤ → Ends
 sent t a left = record { encoder = a .state; decoder = t .decoder; waiting = answer (a .number) (some left) (λ _. t .waiting) }
 
@@ -65,7 +66,7 @@ Made t (encodes-alaw octets codewords a left) = Encodes (t .encoder) (alaw-sampl
 Made t (decodes codewords samples a left) = Decodes (t .decoder) codewords samples a left
 Made t (decodes-alaw codewords octets a left) = DecodesAlaw (t .decoder) codewords octets a left
 
--- the condition, which is for those who make the calls to meet
+-- the condition, which the caller has to meet
 abbrev pub MaySend : Ends → Encoded → Type 0
 MaySend t a = a .number ≡ 0 → t .waiting ≡ none
 
@@ -95,12 +96,12 @@ Shown t (encodes-alaw octets _ a left) = Fitting t (alaw-samples octets) a left
 Shown t (decodes _ _ a _) = Same t a
 Shown t (decodes-alaw _ _ a _) = Same t a
 
--- so at each call of a sequence
+-- P at each call of a sequence
 unfoldable pub along : (Ends → Call → Type 0) → Ends → List Call → Type 0
 along P t [] = Unit {0}
 along P t (c ∷ calls) = P t c × along P (after t c) calls
 
--- where no frame waits yet
+-- both ends at the start, where no frame waits yet
 abbrev pub at-home : Encoder → Decoder → Ends
 at-home e d = record { encoder = e; decoder = d; waiting = none }
 

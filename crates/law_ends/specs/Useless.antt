@@ -1,4 +1,4 @@
--- 01, 'What counts as shown' (c): useless versions, and that none of them keeps the promises.
+-- House rules, 'What counts as shown' (c): useless versions, and that none of them keeps the promises.
 use Prim.Native.Nat.{ℕ, zero, suc}
 use native.Mathlib.Omega.{arith}
 use mathlib.Core.Path.{_≡_, refl, sym, ap, subst, _∙_}
@@ -67,7 +67,7 @@ none-found zero i = refl
 none-found (suc n) zero = refl
 none-found (suc n) (suc i) = none-found n i
 
--- ---- refusing all: what 01 does not refuse is done
+-- ---- refusing everything: what the house rules do not refuse is done
 
 pub refuses-samples : (e : Encoder) (samples lent : List ℤ) (a : Encoded) (left : List ℤ)
     → length samples ≡ 160 → length lent ≡ 76 → sound-coder (coder e) ≡ true → ¬ (a .number ≡ 0) → ¬ Encodes e samples lent a left
@@ -79,7 +79,7 @@ pub refuses-frames : (d : Decoder) (codewords lent : List ℤ) (a : Decoded) (le
 refuses-frames d codewords lent a left l k s n p =
     n (decoder.number-is d codewords lent a left p ∙ decode-exactly (memory d) codewords lent .allows l k s)
 
--- and so on octets
+-- the same for octets
 pub refuses-octets : (e : Encoder) (octets : List ℕ) (lent : List ℤ) (a : Encoded) (left : List ℤ)
     → length octets ≡ 160 → length lent ≡ 76 → sound-coder (coder e) ≡ true → ¬ (a .number ≡ 0)
     → ¬ Encodes e (alaw-samples octets) lent a left
@@ -90,7 +90,7 @@ pub refuses-heard : (d : Decoder) (codewords : List ℤ) (lent : List ℕ) (a : 
     → ¬ DecodesAlaw d codewords lent a left
 refuses-heard d codewords lent a left l k s n p = n (decode-alaw-refuses d codewords lent a left p .allows l k s)
 
--- ---- the codewords counted before the samples or the octets: 2, where the first length is wrong
+-- ---- the codewords counted before the samples or the octets: number 2 where the samples or the octets are already wrong
 
 second-first : {A B : Type 0} (n : ℕ) (xs : List A) (ys : List B) (good : Bool)
     → Exactly n 160 76 1 2 3 xs ys good → ¬ (length xs ≡ 160) → ¬ (n ≡ 2)
@@ -114,7 +114,7 @@ pub codewords-first-heard-octets : (d : Decoder) (codewords : List ℤ) (lent : 
 codewords-first-heard-octets d codewords lent a left h n p =
     second-first (a .number) lent codewords _ (decode-alaw-refuses d codewords lent a left p) h n
 
--- ---- from home: what pulses, silence and their frames come to, computed
+-- ---- from home: what pulses, silence and their frames give, computed
 
 pub record Computed : Type 0 where
   pub frame : answers.encode home-coder pulses (zeros 76) .codewords ≡ first-frame

@@ -1,4 +1,4 @@
--- 4.2.15: xmax and its code, an exponent and the bits of xmax from the highest one down. The code fits its field, and bounds xmax.
+-- 4.2.15: xmax and its code, which is made of an exponent and the highest bits of xmax. The code fits its field, and it bounds xmax.
 use Prim.Native.Nat.{ℕ, suc, _+_, _*_, _-_, _/_, _^_, _<_, _≤_}
 use mathlib.Core.Path.{_≡_, refl, ap, _∙_}
 use mathlib.Core.Bool.{Bool, true, false, cond}
@@ -29,7 +29,7 @@ use Rattle.law_fields.specs.Fit.{fit-yes}
 
 -- ---- xmax
 
--- it is from 0 to 32767, whatever the pulses
+-- xmax is from 0 to 32767, for any pulses
 pub peak-in : (xs : List ℤ) → within (pos 0) (pos 32767) (peak xs) ≡ true
 unfolding peak
 peak-in xs =
@@ -43,7 +43,7 @@ peak-in xs =
 pub peak-halves : (xs : List ℤ) → (P (peak xs) ≤ 32767) × (N (peak xs) ≤ 0)
 peak-halves xs = range-is 0 32767 (peak xs) (peak-in xs)
 
--- so 4.2.4's and 4.2.11's shift of it to the top of a long word loses nothing
+-- so the shift of such a maximum to the top of a long word, in 4.2.4 and 4.2.11, loses nothing
 pub peak-up : (xs : List ℤ) → up w32 (peak xs) 16 ≡ peak xs *ℤ pos 65536
 peak-up xs = keep-plain (omega (zar, peak-halves xs, scale-is (peak xs) 65536))
 
@@ -54,21 +54,21 @@ peak-covers xs j h = rw (map-at abs xs j (pos 0) (pos 0) h) at (largest-covers (
 
 -- ---- exp: how often xmax was halved
 
--- n is gone after 9 + i halvings
+-- n is 0 after 9 + i halvings
 abbrev gone : ℕ → ℕ → Bool
 gone n i = leZ (pos n >> (9 + i)) (pos 0)
 
--- then it is below that power of 2
+-- then n is below that power of 2
 gone-yes : (n i : ℕ) → gone n i ≡ true → n < 2 ^ (9 + i)
 gone-yes n i t =
     let l = leb-true (n / 2 ^ (9 + i)) 0 t in
     omega (arith, div-lt-iff-lt-mul {x = n} {y = 1} (pow-pos (9 + i)) .0 (omega arith))
 
--- and where it is not gone, it is not below
+-- and where n is not 0 then, it is not below
 gone-no : (n i : ℕ) → gone n i ≡ false → 2 ^ (9 + i) ≤ n
 gone-no n i t = omega (arith, le-div-iff-mul-le {x = 1} {y = n} (pow-pos (9 + i)) .0 (leb-false (n / 2 ^ (9 + i)) 0 t))
 
--- exp is from 0 to 6, whatever xmax
+-- exp is from 0 to 6, for any xmax
 pub exp-in : (xmax : ℤ) → exponent xmax ≤ 6
 unfolding exponent
 exp-in xmax = first-le (λ i. leZ (xmax >> (9 + i)) (pos 0)) 6 0
@@ -123,7 +123,7 @@ parts n h =
       code = rw shifted (plus-plain (pos m) (pos (e * 8)) (omega zar) ∙ ap pos (omega arith));
     }
 
--- and so has xmax
+-- so has xmax
 parts-of : (xmax : ℤ) → within (pos 0) (pos 32767) xmax ≡ true → (n : ℕ) × (xmax ≡ pos n) × Parts n
 parts-of (pos n) h = (n, refl, parts n (omega (zar, within-is (pos 0) (pos 32767) (pos n) h)))
 parts-of (negsuc n) h = absurd (omega (zar, within-is (pos 0) (pos 32767) (negsuc n) h))

@@ -1,4 +1,4 @@
--- 01, 'Numbers handed over': every codeword of a coded frame fits its field, and every lag is from 40 to 120.
+-- House rules, 'Samples and codewords': every codeword of a coded frame fits its field, and every lag is from 40 to 120.
 use mathlib.Core.Path.{_≡_, refl, sym}
 use mathlib.Core.Bool.{Bool, true}
 use mathlib.Core.List.{List, [], _∷_, map, zipWith, flatten}
@@ -30,7 +30,7 @@ use Rattle.law_fields.specs.Pulses.{grid-in, grid-words, pulses-fit}
 abbrev pub sub-fits : Subframe → Bool
 sub-fits s = all-fit sub-widths (sub-words s)
 
--- so it is where each part fits, and there are thirteen pulses
+-- this holds where each part fits and there are thirteen pulses
 by-parts : (s : Subframe) → fit 7 (s .Nc) ≡ true → fit 2 (s .bc) ≡ true → fit 2 (s .Mc) ≡ true → fit 6 (s .xmaxc) ≡ true
     → every (fit 3) (s .xMc) ≡ true → length (s .xMc) ≡ 13 → sub-fits s ≡ true
 unfolding sub-words sub-widths zipWith every

@@ -20,7 +20,7 @@ unfolding fit
 fit-yes width (pos n) h e = lt-ltb n (2 ^ width) h
 fit-yes width (negsuc n) h e = absurd (omega arith)
 
--- and one that fits is so
+-- and a number that fits is so
 pub fit-is : (width : ℕ) (z : ℤ) → fit width z ≡ true → (P z < 2 ^ width) × (N z ≡ 0)
 unfolding fit
 fit-is width (pos n) h = omega (arith, ltb-true n (2 ^ width) h)
@@ -32,7 +32,7 @@ unfolding fit
 fit-negative width (pos n) h = absurd (omega zar)
 fit-negative width (negsuc n) h = refl
 
--- another is compared with the field's limit
+-- one that is not negative is compared with the field's limit
 pub fit-compared : (width : ℕ) (c : ℤ) → ltZ c (pos 0) ≡ false → fit width c ≡ ltb (natAbs c) (2 ^ width)
 unfolding fit
 fit-compared width (pos n) h = refl
@@ -48,7 +48,7 @@ all-fit ws cs = every (λ b. b) (zipWith fit ws cs)
 pub same-width : (n w : ℕ) (cs : List ℤ) → length cs ≡ n → every (fit w) cs ≡ true → all-fit (replicate n w) cs ≡ true
 same-width n w cs l h = rw (zip-replicate fit w n cs l, every-map) h
 
--- what fits some fields, and what fits those that follow, fits all of them
+-- codewords that fit some fields, joined with codewords that fit the fields after them, fit all of these fields
 pub joined : (ws ws′ : List ℕ) (cs cs′ : List ℤ)
     → length ws ≡ length cs → all-fit ws cs ≡ true → all-fit ws′ cs′ ≡ true → all-fit (ws ++ ws′) (cs ++ cs′) ≡ true
 joined ws ws′ cs cs′ l h k = rw (zip-append fit ws ws′ cs cs′ l, every-append, h, k)

@@ -1,3 +1,4 @@
+-- All that the specs of this crate have: each codeword fits its field, the decoder reads what the coder writes, and what a mark says.
 pub mod Fit
 pub mod Ratios
 pub mod Gains

@@ -1,4 +1,4 @@
--- 02, W-203: what the lag mark says. It belongs to the search: a lag of 40 with gain code 0 may be found.
+-- House rules, 'Marks' (request W-203): what the mark of a lag says. It comes from the search: a lag of 40 with gain code 0 can be found.
 use Prim.Native.Nat.{ℕ, zero, suc, _+_, _-_}
 use mathlib.Core.Path.{_≡_, refl, sym, ap, _∙_}
 use mathlib.Core.Bool.{Bool, true, false, cond, true≢false}
@@ -24,7 +24,7 @@ use Rattle.law_arithmetic.specs.Product.{L-mult-zero}
 use Rattle.law_arithmetic.specs.Shift.{shr-zero}
 use Rattle.law_lengths.specs.Subframes.{Lag, correlations-length, sub-coded-lag}
 
--- ---- what it says
+-- ---- what a mark says
 
 -- the sum at a lag, before the rescaling, is positive
 abbrev pub positive-at : List ℤ → List ℤ → ℕ → Type 0
@@ -43,7 +43,7 @@ pub record Told (m : Mark) (dp d : List ℤ) (f : Subframe) : Type 0 where
   pub unmeasured : (m ≡ rule) ↔ ¬ Measured dp d
   pub stands : m ≡ rule → (f .Nc ≡ pos 40) × (f .bc ≡ pos 0)
 
--- ---- it is so
+-- ---- that it is so
 
 -- a mark as a test
 abbrev says-found : Mark → Bool
@@ -54,7 +54,7 @@ tested : (b : Bool) → says-found (cond b found rule) ≡ b
 tested true = refl
 tested false = refl
 
--- there are two
+-- there are only two marks
 other : (m : Mark) → ¬ (m ≡ found) → m ≡ rule
 other rule n = refl
 other found n = absurd (n refl)
@@ -112,7 +112,7 @@ module _ (dp d : List ℤ) where
   pub told : Told (mark (sub-coded dp d)) dp d (sub-coded dp d .codes)
   told = record { measured = found-exactly; positive = found-positive; unmeasured = rule-exactly; stands = rule-stands }
 
--- ---- what was shown before: "rule" for every lag of 40 with gain code 0. A buzz of period 40 that fades is found
+-- ---- the earlier rule by codes, "rule" for every lag of 40 with gain code 0, is another one: a buzz of period 40 that fades is found
 
 pub rule-by-codes : ¬ ((dp d : List ℤ) → let s = sub-coded dp d in s .codes .Nc ≡ pos 40 → s .codes .bc ≡ pos 0 → mark s ≡ rule)
 rule-by-codes h =
@@ -120,7 +120,7 @@ rule-by-codes h =
     let r = h (forty-back (pos 20000)) (pulse (pos 1000)) (ap (λ t. t .0) w) (ap (λ t. t .1) w) in
     true≢false (sym (ap (λ t. says-found (t .2)) w) ∙ ap says-found r)
 
--- nor could any rule over the 17 codewords give the mark: a faint pulse and its opposite have the same, and one of them is found
+-- nor can any rule over the 17 codewords give the mark: a faint pulse and its opposite have the same codewords, and one of them is found
 pub not-by-codes : (rule-of : Subframe → Mark) → ¬ ((dp d : List ℤ) → mark (sub-coded dp d) ≡ rule-of (sub-coded dp d .codes))
 not-by-codes rule-of h =
     let yes = h (forty-back (pos 1)) (pulse (pos 1)) ∙ ap rule-of (forty .faint-codes) in

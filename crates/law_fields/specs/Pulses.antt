@@ -68,7 +68,7 @@ rooms : every has-room (tab (λ c. c) 0 64) ≡ true
 unfolding every tab has-room amplitude mantissa first minus clip NRFAC
 rooms = refl
 
--- so there is room for each
+-- so it holds for each code
 pub room : (c : ℕ) → c < 64 → Room c
 unfolding has-room
 room c h =
@@ -89,7 +89,7 @@ room c h =
       product = ltb-true (y * natAbs f) 536870912 w;
     }
 
--- a pulse that has room, in the shift and in the product, has a code from 0 to 7
+-- a pulse for which neither the shift nor the product goes too far has a code from 0 to 7
 scaled-in : (x : ℤ) (k f : ℕ) → natAbs x * 2 ^ k ≤ 32767 → natAbs x * 2 ^ k * f < 536870912
     → fit 3 (add (mult (shl w16 x (pos k)) (pos f) >> 12) (pos 4)) ≡ true
 unfolding mult
@@ -110,7 +110,7 @@ scaled-in x k f h g =
     rw (shl-exact w16 x k (omega zar))
     (fit-yes 3 (add (u >> 12) (pos 4)) (omega arith) (omega (arith, apart (u >> 12 +ℤ pos 4))))
 
--- so has one that is not larger than the greatest xmax with code c
+-- so has a pulse that is not larger in size than the greatest xmax with code c
 pulse-in : (c : ℕ) (x : ℤ) → c < 64 → natAbs x ≤ top c → fit 3 (pulse (amplitude (pos c)) x) ≡ true
 pulse-in c x h g =
     let r = room c h in
@@ -118,7 +118,7 @@ pulse-in c x h g =
     rw (r .shift-is, r .factor-is)
     (scaled-in x (r .shift) (r .factor) (omega (arith, r .word)) (omega (arith, r .product, mul-le-mul-right (r .factor) k)))
 
--- and the least word, which is larger than any xmax: it occurs only where xmax is 32767
+-- and so has the least word, which is larger in size than any xmax: it occurs only where xmax is 32767
 least : fit 3 (pulse (amplitude (xmaxc (pos 32767))) (negsuc 32767)) ≡ true
 unfolding fit clip modulo keep plus minus shl mult first exponent xmaxc mantissa amplitude NRFAC
 least = refl
@@ -166,12 +166,12 @@ table-words f n h k =
     (λ l. rw (tab-at-zero f n k (pos 0) l) (h k))
     (le-or-lt n k)
 
--- those of x are, whatever is weighted
+-- the x are words, whatever is weighted
 weighted-words : (e : List ℤ) (k : ℕ) → SFits w16 (weighted e at k)
 unfolding weighted filtered
 weighted-words e = table-words _ 40 (λ k. keep-fits w16 _)
 
--- and so are the pulses, whatever the grid
+-- and so are the pulses, for any grid
 pub grid-words : (m : ℕ) (e : List ℤ) (k : ℕ) → SFits w16 (grid m (weighted e) at k)
 unfolding grid
 grid-words m e = table-words _ 13 (λ i. weighted-words e (m + 3 * i))

@@ -21,7 +21,7 @@ use Rattle.law_arithmetic.specs.Clip.{minus-clip}
 use Rattle.op_tables.specs.Facts.{LARc-span, LARc-fits}
 use Rattle.law_fields.specs.Fit.{fit-yes, all-fit}
 
--- what is brought between two ends lies between them
+-- a clamped number lies between the two ends
 pub clamped-in : (least most x : ℤ) → leZ least most ≡ true
     → (leZ least (clamped least most x) ≡ true) × (leZ (clamped least most x) most ≡ true)
 unfolding clamped
@@ -34,7 +34,7 @@ clamped-in least most x h =
 ends : (i : ℕ) → i < 8 → leZ (MIC at i) (MAC at i) ≡ true
 ends i h = omega (zar, eq-is _ _ (LARc-span i h), minus-is (MAC at i) (MIC at i), apart (MAC at i -ℤ MIC at i))
 
--- so what lies between them, once MIC is taken from it, fits
+-- so a number between them fits the field once MIC is subtracted
 code-fits : (i : ℕ) (temp : ℤ) → i < 8 → fit (getD LARc-widths i 0) (sub (clamped (MIC at i) (MAC at i) temp) (MIC at i)) ≡ true
 code-fits i temp h =
     let c = clamped (MIC at i) (MAC at i) temp in

@@ -1,4 +1,5 @@
--- 01, 'Numbers handed over': a sample's 13 valid bits. An output sample has 0 in the low 3, and the coder does not look at these.
+-- House rules, 'Samples and codewords': the 13 valid bits of a sample. An output sample has 0 in the low 3 bits; the coder ignores these
+-- bits.
 use Prim.Native.Nat.{ℕ, suc, _*_, _-_, _<_, _≤_}
 use mathlib.Core.Path.{_≡_, refl, ap, ap₂, _∙_}
 use mathlib.Core.Bool.{true}
@@ -58,13 +59,13 @@ whole x =
     rw (modulo-scaled (x >> 3) {m = 8192} {c = 8} (omega arith) (omega arith))
     (eights (modulo (x >> 3) 8192) (modulo-below (x >> 3) (omega arith)))
 
--- and its own sample: the low 3 bits are 0
+-- and it stays as it is when its low 3 bits are cleared again
 pub sample-twice : (x : ℤ) → sample (sample x) ≡ sample x
 sample-twice x = sample-word (sample x) (sample-fits x) ∙ whole x
 
 -- ---- the decoder's samples
 
--- they are their own valid bits
+-- their low 3 bits are 0
 pub decoded-samples : (m : Decoder) (f : Frame) → map sample (decoded m f .1) ≡ decoded m f .1
 unfolding decoded srop
 decoded-samples m f = simp (map-map, sample-twice)

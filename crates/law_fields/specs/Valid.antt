@@ -1,4 +1,4 @@
--- 01, 'Numbers handed over': the valid bits of a codeword, and that the decoder reads what the coder writes.
+-- House rules, 'Samples and codewords': the valid bits of a codeword, and that the decoder reads what the coder writes.
 use Prim.Native.Nat.{ℕ, zero, suc, _+_, _^_, _≤_}
 use mathlib.Core.Path.{_≡_, refl, sym, ap, ap₂}
 use mathlib.Core.Bool.{true, true≢false}
@@ -76,7 +76,7 @@ pub valid-twice : (c : List ℤ) → valid (valid c) ≡ valid c
 unfolding fits valid
 valid-twice c = all-low-own widths (valid c) (omega (arith, zip-length low-bits widths c)) (valid-fits c)
 
--- "The decoder uses valid bits only": codewords with the same valid bits are received as the same frame
+-- the decoder uses the valid bits only: codewords with the same valid bits are received as the same frame
 pub received-valid : (c c′ : List ℤ) → valid c ≡ valid c′ → received c ≡ received c′
 unfolding received
 received-valid c c′ e = rw e
@@ -88,12 +88,12 @@ decode-valid m c c′ s l e = rw (l, received-valid c c′ e)
 
 -- ---- what the coder writes the decoder reads
 
--- the places of n sub-frames, the first at p
+-- the start indices of n sub-frames, the first at p
 starts : ℕ → ℕ → List ℕ
 starts p zero = []
 starts p (suc n) = p ∷ starts (p + 17) n
 
--- the sub-frame at a place of some codewords
+-- the sub-frame that starts at an index of some codewords
 abbrev read : List ℤ → ℕ → Subframe
 read v p = sub-received (take 17 (drop p v))
 
@@ -117,7 +117,7 @@ read-all l (s ∷ ss) h =
     ap₂ _∷_ (read-first l (flatten (map sub-words ss)) s w)
     (rw (append-assoc, length-append, w) at (read-all (l ++ sub-words s) ss b))
 
--- a frame whose codewords fit is read as it is
+-- a frame whose codewords fit is read as it was written
 pub received-words : (f : Frame) → FrameSizes f → fits (words f) ≡ true → received (words f) ≡ f
 unfolding words received places starts
 received-words f s h =

@@ -1,1 +1,2 @@
-// Laws of the codewords: each that the coder gives fits its field, and a decoder reads what was written; no code.
+// Laws of the codewords: each codeword that the coder gives fits its field, and the decoder reads what was written. No
+// code.

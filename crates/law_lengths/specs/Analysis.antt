@@ -29,7 +29,7 @@ pub downscaled-length : (s : List ℤ) → length (downscaled s) ≡ length s
 unfolding downscaled
 downscaled-length s = length-map s _
 
--- so does what is done only if the scaling factor is above 0
+-- so does a step that is done only if the scaling factor is above 0
 if-scaled-length : (scale : ℤ) (f : ℤ → ℤ) (s : List ℤ) → length (if-scaled scale f s) ≡ length s
 if-scaled-length scale f s = by-cond (λ t. length t ≡ length s) (ltZ (pos 0) scale) (λ h. length-map s f) (λ h. refl)
 
@@ -45,12 +45,12 @@ rescaled-length scale s = if-scaled-length scale _ s
 
 -- ---- 4.2.4 to 4.2.8 autocorrelation, reflection coefficients, Log.-Area Ratios
 
--- L_ACF[0..8] are nine
+-- there are nine L_ACF
 pub L-ACF-length : (s : List ℤ) → length (L-ACF s) ≡ 9
 unfolding L-ACF
 L-ACF-length s = tab-length _ 0 9
 
--- and there are as many ACF
+-- and as many ACF
 pub ACF-length : (L-acf : List ℤ) → length (ACF L-acf) ≡ length L-acf
 unfolding ACF
 ACF-length L-acf = length-map L-acf _
@@ -68,13 +68,13 @@ pub schur-length : (L-acf : List ℤ) → length (schur L-acf) ≤ 8
 unfolding schur
 schur-length L-acf = by-cond (λ t. length t ≤ 8) (is-zero (L-acf at 0)) {x = []} (λ h. omega arith) (λ h. measured-length 8 _ _ _)
 
--- the test that a stop has a step's number, 1 to 8
+-- the test that the number of a stop is from 1 to 8
 unfoldable pub step-number : Ending → Bool
 step-number silent = true
 step-number (stopped n) = leb 1 n && leb n 8
 step-number complete = true
 
--- no recursion ends in another
+-- every ending of the recursion passes it
 pub ending-number : (L-acf : List ℤ) → step-number (ending L-acf) ≡ true
 unfolding ending step-number
 ending-number L-acf =
@@ -83,17 +83,17 @@ ending-number L-acf =
     by-cond (λ e. step-number e ≡ true) (is-zero (L-acf at 0)) (λ _. refl)
     (λ _. by-cond (λ e. step-number e ≡ true) (eqb n 8) (λ _. refl) (λ e. rw (le-leb 1 (suc n) (omega arith), le-leb (suc n) 8 (short e))))
 
--- r[1..8] are eight, wherever it stopped
+-- there are eight r, wherever the recursion stopped
 pub r-length : (L-acf : List ℤ) → length (r L-acf) ≡ 8
 unfolding r
 r-length L-acf = simp (length-append, length-replicate) (omega (arith, schur-length L-acf))
 
--- LARc[1..8] are eight
+-- there are eight LARc
 pub ratio-codes-length : (rs : List ℤ) → length (ratio-codes rs) ≡ 8
 unfolding ratio-codes
 ratio-codes-length rs = tab-length _ 0 8
 
--- LARpp[1..8] are eight
+-- there are eight LARpp
 pub ratios-length : (larc : List ℤ) → length (ratios larc) ≡ 8
 unfolding ratios
 ratios-length larc = tab-length _ 0 8
@@ -105,7 +105,7 @@ pub coefficients-length : (old new : List ℤ) → length (coefficients old new)
 unfolding coefficients stretches stretch flatten
 coefficients-length old new = refl
 
--- and eight for each, where there are eight old ratios and eight new ones
+-- and eight for each sample, where there are eight old ratios and eight new ones
 pub coefficients-sized : (old new : List ℤ) → length old ≡ 8 → length new ≡ 8 → every (sized 8) (coefficients old new) ≡ true
 unfolding coefficients stretch
 coefficients-sized old new o n = rw (every-flatten, every-map) (every-all _ each stretches)
@@ -118,7 +118,7 @@ coefficients-sized old new o n = rw (every-flatten, every-map) (every-all _ each
 
 -- ---- 4.2.10 short term analysis filtering
 
--- u has as many as it had, where there are as many coefficients
+-- u keeps its length, where there are as many coefficients
 pub analysed-length : (u rps : List ℤ) (s : ℤ) → length (analysed u (rps, s) .0) ≡ min (length rps) (length u)
 unfolding analysed
 analysed-length u rps s = run-length section (s, s) (zip rps u) ∙ pairs-length rps u
@@ -133,12 +133,12 @@ analysed-all-length u xs h e =
 -- ---- 4.2.0 to 4.2.10 the whole
 
 module _ (c : Coder) (s : List ℤ) where
-  -- the coded ratios are eight, whatever the coder and the samples are
+  -- there are eight coded ratios, for any coder and any samples
   pub analysis-codes-length : length (analysis c s .LARc) ≡ 8
   unfolding analysis
   analysis-codes-length = ratio-codes-length _
 
-  -- so are the decoded ones, which are kept
+  -- and eight decoded ratios, which are kept
   pub analysis-ratios-length : length (analysis c s .next .LARpp) ≡ 8
   unfolding analysis
   analysis-ratios-length = ratios-length _
@@ -148,7 +148,7 @@ module _ (c : Coder) (s : List ℤ) where
   unfolding analysis
   analysis-d-length = simp (run-length, pairs-length, coefficients-length, rescaled-length, scaled-length, downscaled-length)
 
-  -- u stays at eight, whatever the samples are
+  -- u keeps eight, for any samples
   pub analysis-u-length : length (c .LARpp) ≡ 8 → length (c .u) ≡ 8 → length (analysis c s .next .u) ≡ 8
   unfolding analysis
   analysis-u-length h k =

@@ -1,4 +1,4 @@
--- The calls of both ends: a buffer that was lent keeps its length, and the state its sizes, refused or not.
+-- The calls of both ends: the buffer that was passed keeps its length, and the state keeps its sizes, whether the call is refused or not.
 use mathlib.Core.Path.{_≡_, refl, sym, _∙_}
 use mathlib.Core.List.{List}
 use lib.IntN.{ℤ}
@@ -21,7 +21,7 @@ module _ (c : Coder) (samples codewords : List ℤ) where
       by-answer (λ (t : Encoded). length (t .codewords) ≡ length codewords) (encode-refusal c samples codewords)
       (λ e. coded-words-length c samples ∙ sym (encode-exactly c samples codewords .allowed e .1)) (λ k. refl)
 
-  -- gives four marks
+  -- encode gives four marks
   pub encode-marks-length : length (encode c samples codewords .marks) ≡ 4
   unfolding encode
   encode-marks-length =
@@ -35,7 +35,7 @@ module _ (c : Coder) (samples codewords : List ℤ) where
       by-answer (λ (t : Encoded). CoderSizes (t .state)) (encode-refusal c samples codewords) (λ e. coded-sizes c samples h) (λ k. h)
 
 module _ (m : Decoder) (codewords samples : List ℤ) where
-  -- what decode takes is received as a frame
+  -- the codewords that decode accepts are received as a frame of the right sizes
   frame-sizes : decode-refusal m codewords samples ≡ 0 → FrameSizes (received codewords)
   frame-sizes e = received-sizes codewords (decode-exactly m codewords samples .allowed e .1)
 

@@ -19,18 +19,18 @@ use Rattle.law_lengths.specs.Subframes.{Lag, full, reconstructed-length,
 
 -- ---- 4.3.2 long term synthesis filtering: the lag
 
--- a number that passes it is one
+-- a number that passes `is-lag` is a lag
 pub range-lag : (n : ℤ) → is-lag n ≡ true → Lag (natAbs n)
 range-lag n h =
     let (l, m) = and-eq-true-iff (leZ (pos 40) n) (leZ n (pos 120)) .0 h in
     omega (zar, abs-is n, apart n)
 
--- the lag in use is one where the remembered one is, whatever is received
+-- the lag that is used is from 40 to 120 where the remembered lag is, whatever is received
 pub Nr-range : (nrp Ncr : ℤ) → is-lag nrp ≡ true → is-lag (Nr nrp Ncr) ≡ true
 unfolding Nr
 Nr-range nrp Ncr h = by-cond (λ n. is-lag n ≡ true) (is-lag Ncr) (λ e. e) (λ e. h)
 
--- so it is after a sub-frame
+-- so is the remembered lag after a sub-frame
 pub sub-decoded-range : (s : List ℤ × ℤ) (f : Subframe) → is-lag (s .1) ≡ true → is-lag (sub-decoded s f .0 .1) ≡ true
 unfolding sub-decoded
 sub-decoded-range s f h = Nr-range (s .1) (f .Nc) h
@@ -61,7 +61,7 @@ module _ (s : List ℤ × ℤ) (f : Subframe) (h : Start s) (p : length (f .xMc)
   unfolding sub-decoded
   sub-decoded-start = record { drp = updated-length (s .0) _ (h .drp) sub-decoded-length; nrp = sub-decoded-range s f (h .nrp) }
 
--- both, by the tests that a run carries along
+-- both, as tests that a run keeps
 sub-decoded-keeps : (s : List ℤ × ℤ) (f : Subframe)
     → Start s → full f ≡ true → Start (sub-decoded s f .0) × (sized 40 (sub-decoded s f .1) ≡ true)
 sub-decoded-keeps s f h q =
@@ -77,7 +77,7 @@ module _ (s : List ℤ × ℤ) (fs : List Subframe) (h : Start s) (p : every ful
   pub sub-decodes-sized : every (sized 40) (run sub-decoded s fs .1) ≡ true
   sub-decodes-sized = run-keeps sub-decoded Start full (sized 40) sub-decoded-keeps s fs h p .1
 
-  -- so many there are in all
+  -- so there are 40 samples for each sub-frame
   pub sub-decodes-samples : length (flatten (run sub-decoded s fs .1)) ≡ length fs * 40
   sub-decodes-samples = flatten-sized 40 (run sub-decoded s fs .1) sub-decodes-sized ∙ rw run-length
 

@@ -1,4 +1,4 @@
--- A frame, the two ends of the codec and their calls: what they hold has its length, and keeps it.
+-- A frame, and the states of both ends: their lists have their lengths, and keep them.
 use Prim.Native.Nat.{ℕ, _+_}
 use mathlib.Core.Path.{_≡_, refl, _∙_}
 use mathlib.Core.Bool.{true}
@@ -84,7 +84,7 @@ unfolding home-coder
 home-coder-sizes = record { LARpp = refl; u = refl; dp = refl }
 
 module _ (c : Coder) (s : List ℤ) where
-  -- of 160 samples each sub-frame is coded from 40 samples of d
+  -- for 160 samples each sub-frame is coded from 40 samples of d
   pub parts-sized : length s ≡ 160 → every (sized 40) (cut (replicate 4 40) (analysis c s .d)) ≡ true
   parts-sized h = cut-sized 4 40 (analysis c s .d) (omega (arith, analysis-d-length c s))
 

@@ -1,4 +1,4 @@
--- The lister's frames: as many as are whole, as far as the limit, each of 160 samples.
+-- The lister's frames: all whole frames up to the limit, each of 160 samples.
 use Prim.Native.Nat.{ℕ, _/_, min}
 use mathlib.Core.Path.{_≡_, refl}
 use mathlib.Core.Bool.{true}
@@ -18,7 +18,7 @@ file-words-length [] = refl
 file-words-length (low ∷ []) = refl
 file-words-length (low ∷ high ∷ bytes) = omega (arith, file-words-length bytes)
 
--- there are as many frames as are whole, no more than the limit
+-- there are as many frames as are whole, but no more than the limit
 pub frames-count : (bytes : List ℕ) → length (frames bytes) ≡ min (length bytes / frame-bytes) most-frames
 unfolding frames
 frames-count bytes = rw (length-map, cut-count, length-replicate)

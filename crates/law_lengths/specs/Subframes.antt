@@ -24,7 +24,7 @@ pub record Lag (n : ℕ) : Type 0 where
   pub least : 40 ≤ n
   pub most : n ≤ 120
 
--- it has them
+-- there are 40 of them
 pub back-length : (lag : ℕ) (dp : List ℤ) → Lag lag → length dp ≡ 120 → length (back lag dp) ≡ 40
 unfolding back
 back-length lag dp l h = simp (length-take, length-drop) (omega arith)
@@ -41,7 +41,7 @@ found-lag d dp =
     let e : length (correlations d dp) ≡ 81 = correlations-length d dp in
     omega (arith, best-within (correlations d dp) (omega arith))
 
--- dpp[0..39] are 40
+-- there are 40 dpp
 pub dpp-length : (lag gain : ℕ) (dp : List ℤ) → Lag lag → length dp ≡ 120 → length (dpp lag gain dp) ≡ 40
 unfolding dpp
 dpp-length lag gain dp l h = length-map (back lag dp) _ ∙ back-length lag dp l h
@@ -53,7 +53,7 @@ residual-length = zip-length sub
 
 -- ---- 4.2.13 to 4.2.16 the weighting filter, the grid, its pulses coded and decoded
 
--- x[0..39] are 40
+-- there are 40 x
 pub weighted-length : (e : List ℤ) → length (weighted e) ≡ 40
 unfolding weighted
 weighted-length e = tab-length _ 0 40

@@ -1,4 +1,4 @@
--- A left shift that loses nothing; and those of 4.2 of which no stage has the law, in 001's order.
+-- What it means that a left shift loses nothing; and this for each left shift of 4.2 whose law is in no stage, in the standard's order.
 use Prim.Native.Nat.{ℕ, _-_, _*_, _^_, _<_, _≤_}
 use mathlib.Core.Path.{_≡_, refl, sym, ap, _∙_}
 use mathlib.Core.Bool.{true, false}
@@ -20,11 +20,11 @@ use Rattle.op_tables.specs.Facts.{within, LARc-span}
 use Rattle.law_fields.specs.Fit.{fit-is}
 use Rattle.rpe_inverse.specs.Shifts.{twice, raised}
 
--- z << n at width w, with all its bits
+-- z << n at width w loses nothing
 abbrev pub Exact : Width → ℤ → ℕ → Type 0
 Exact w z n = up w z n ≡ z *ℤ pos (2 ^ n)
 
--- the same by a count that is computed, and is not negative
+-- the same, by a count that is computed and is not negative
 pub record ExactBy (w : Width) (z n : ℤ) : Type 0 where
   pub count : ℕ
   pub is : n ≡ pos count

@@ -1,3 +1,4 @@
+-- All that the specs of this crate have: the six sums and the left shifts over a whole frame, and the words and sizes that they rest on.
 pub mod Signals
 pub mod Words
 pub mod Sizes

@@ -1,4 +1,4 @@
--- 01, 'Arithmetic': no left shift of 4.3 loses bits, whatever codewords are received.
+-- House rules, 'Left shifts': no left shift of 4.3 loses bits, whatever codewords are received.
 use Prim.Native.Nat.{ℕ, _+_, _<_}
 use mathlib.Core.Path.{_≡_, refl}
 use mathlib.Core.Bool.{true}
@@ -46,7 +46,7 @@ pub record ReadShifts (f : Frame) : Type 0 where
   -- 4.3.7: (srop >> 3) << 3, whatever sro is
   pub truncation : (sro : ℤ) → Exact w16 (add sro sro >> 3) 3
 
--- the parts of a sub-frame that is read from seventeen codewords
+-- the shifts of a sub-frame that is read from seventeen codewords
 sub-read : (c : List ℤ) → length c ≡ 17 → SubReadShifts (sub-frame c)
 unfolding sub-frame sub-received sub-widths
 sub-read c l =

@@ -1,4 +1,4 @@
--- 01, 'Arithmetic': over a whole frame no left shift of 4.2 loses bits but the rescaling in 4.2.4, and what that one loses.
+-- House rules, 'Left shifts': over a whole frame only one left shift of 4.2 loses bits, the rescaling in 4.2.4; and what that one loses.
 use Prim.Native.Nat.{ℕ, _^_, _<_, _≤_}
 use mathlib.Core.Path.{_≡_}
 use mathlib.Core.Bool.{true, false}
@@ -50,10 +50,10 @@ pub record FrameShifts (c : Coder) (sop : List ℤ) : Type 0 where
   pub smax : Exact w32 (peak (s c sop)) 16
   -- 4.2.4: the right shift of 16384 by scale − 1 is never a left one
   pub scaling : ltZ (pos 0) (scale c sop) ≡ true → leZ (pos 0) (sub (scale c sop) (pos 1)) ≡ true
-  -- 4.2.4, the rescaling, which is made where the scale is above 0: it loses nothing of a sample below 32760 or at a scale below 4
+  -- 4.2.4, the rescaling, made where the scale is above 0: it loses nothing of a sample below 32760, and nothing at a scale below 4
   pub rescaling : (k : ℕ) → k < 160 → ltZ (pos 0) (scale c sop) ≡ true → (scale c sop ≡ pos 4 → ltZ (s c sop at k) (pos 32760) ≡ true)
       → ExactBy w16 (small c sop at k) (scale c sop)
-  -- the one place: at scale 4 a sample of 32760 to 32767 comes back as −32768
+  -- the one that loses bits: at scale 4 each sample from 32760 to 32767 becomes −32768
   pub loses : (k : ℕ) → k < 160 → scale c sop ≡ pos 4 → leZ (pos 32760) (s c sop at k) ≡ true
       → shl w16 (small c sop at k) (scale c sop) ≡ neg 32768
   -- 4.2.5: the normalisation, which is made where the first sum is above 0
@@ -79,7 +79,7 @@ pub record SubShifts (dp d : List ℤ) : Type 0 where
   pub S : ltZ (pos 0) (L-max dp d) ≡ true → ltZ (L-max dp d) (L-pow dp d) ≡ true → ExactBy w32 (L-pow dp d) (norm (L-pow dp d))
   -- 4.2.15: exp << 3
   pub amplitude : Exact w16 (pos (exponent (peak (xM dp d)))) 3
-  -- 4.2.15: exp << 3 and mant << 1 on the way to exponent and mantissa, which `amplitude` has without a shift
+  -- 4.2.15: exp << 3 and mant << 1, in the computation of exponent and mantissa, which `amplitude` defines without a shift
   pub exponent : (exp : ℕ) → exp ≤ 6 → Exact w16 (pos exp) 3
   pub mantissa : (mant : ℕ) → mant ≤ 7 → Exact w16 (pos mant) 1
   -- 4.2.15: xM << temp1; so the right shift by temp2, which is the same count, in 4.2.16 is never a left one
@@ -97,7 +97,7 @@ pub record SubShifts (dp d : List ℤ) : Type 0 where
 by : (w : Width) (z n : ℤ) → leZ (pos 0) n ≡ true → shl w z n ≡ z *ℤ pos (2 ^ natAbs n) → ExactBy w z n
 by w z n h e = record { count = natAbs n; is = omega (zar, abs-is n, apart n); exact = e }
 
--- as norm's is
+-- norm is not negative
 norm-above : (z : ℤ) → leZ (pos 0) (norm z) ≡ true
 unfolding norm
 norm-above z = omega zar

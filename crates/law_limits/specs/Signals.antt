@@ -1,4 +1,4 @@
--- What a frame is coded by way of, under 001's names: the lists and numbers of which the laws of this crate speak.
+-- The lists and numbers that are computed while a frame is coded, under the standard's names. The laws of this crate speak of these.
 use Prim.Native.Nat.{ℕ, _<_}
 use mathlib.Core.Path.{_≡_, refl}
 use mathlib.Core.List.{List, [], map}

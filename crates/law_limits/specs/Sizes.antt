@@ -1,4 +1,5 @@
--- How large the factors of the sums (b) to (f) are: s, scaled, within 2048; d, scaled, within 512; words shifted right within what is left.
+-- How large the factors of the sums (b) to (f) are: at most 2048 for s, scaled; at most 512 for d, scaled; and bounds for words that are
+-- shifted right, or not shifted.
 use Prim.Native.Nat.{ℕ, _+_, _-_, _*_, _^_, _≤_}
 use mathlib.Core.Path.{_≡_, refl, sym, ap, _∙_}
 use mathlib.Core.Bool.{true}

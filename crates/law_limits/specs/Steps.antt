@@ -1,4 +1,4 @@
--- Partial sums of products: however many of the terms are added, the sum stays within the bound that they all have together.
+-- Partial sums of products: after any number of terms the sum is within the bound of all terms together.
 use Prim.Native.Nat.{ℕ, zero, suc, _+_, _*_, _≤_}
 use mathlib.Core.Path.{_≡_, refl}
 use mathlib.Core.Bool.{true}
@@ -27,7 +27,7 @@ partial (_also_ {x = x} {b = b} k t) C s h (suc n) =
     let z = s +ℤ x in
     omega (arith, partial t (C + b) z (omega (arith, add-is s x, abs-is s, abs-is x, abs-is z, apart z)) n)
 
--- twice a product, the first factor being within A
+-- a bound of twice a product, where the first factor is at most A in size
 abbrev bound : ℕ → ℤ → ℤ → ℕ
 bound A x y = 2 * (A * natAbs y)
 
@@ -42,7 +42,7 @@ products A (x ∷ a) (y ∷ b) e =
     let p : natAbs (L-mult x y) ≤ bound A x y = omega (arith, L-mult-in x y (A * natAbs y) m, abs-is (L-mult x y)) in
     p also products A a b h
 
--- all of them together, where the second factors are within B
+-- the bound of all terms together, where the second factors are at most B in size
 alike : (A B : ℕ) (a b : List ℤ) → every (at-most B) b ≡ true → sum (zipWith (bound A) a b) ≤ length a * (2 * (A * B))
 unfolding zipWith
 alike A B [] b e = omega arith
@@ -51,14 +51,14 @@ alike A B (x ∷ a) (y ∷ b) e =
     let (g, h) = every-cons (at-most B) y b .0 e in
     omega (arith, alike A B a b h, mul-le-mul-left A (leb-true (natAbs y) B g))
 
--- or, by the second factors as they are
+-- or by the second factors themselves
 others : (A : ℕ) (a b : List ℤ) → sum (zipWith (bound A) a b) ≤ sum (map (λ y. 2 * (A * natAbs y)) b)
 unfolding zipWith
 others A [] b = omega arith
 others A (x ∷ a) [] = omega arith
 others A (x ∷ a) (y ∷ b) = omega (arith, others A a b)
 
--- which are the taps of the weighting filter in sum (f)
+-- in sum (f) these are the taps of the weighting filter
 taps : sum (map (λ y. 2 * (32768 * natAbs y)) H) ≡ 1625161728
 unfolding H
 taps = refl

@@ -1,4 +1,4 @@
--- 01, 'Six sums that stay inside 32 bits', over a whole frame: (a) to (f), from any sound state.
+-- House rules, 'Six sums', over a whole frame: the sums (a) to (f) never saturate, from any sound state.
 use Prim.Native.Nat.{ℕ, _-_, _<_, _≤_}
 use mathlib.Core.Path.{_≡_, _∙_}
 use mathlib.Core.Bool.{true}
@@ -32,7 +32,7 @@ use Rattle.law_limits.specs.Words.{home-carried, coded-all-carried}
 use Rattle.law_limits.specs.Sizes.{down-sizes, word-sizes, small-sizes, wt-sizes, back-words, grids-words, around-words}
 use Rattle.law_limits.specs.Steps.{partial-in, partial-taps}
 
--- a sum that 001 makes by L_add: it is the plain sum of its terms, and at most so large, as is what there is of it at each step
+-- a sum that the standard makes by L_add: it is the plain sum of its terms, and it is within the bound, as is each partial sum
 pub record Inside (most : ℕ) (sum start : ℤ) (terms : List ℤ) : Type 0 where
   pub size : natAbs sum ≤ most
   pub plain : sum ≡ foldl _+ℤ_ start terms
@@ -46,7 +46,7 @@ squares n ys =
 
 -- of a frame
 pub record FrameSums (c : Coder) (sop : List ℤ) : Type 0 where
-  -- (a) the offset filter: after any number k of samples it has met no limit and lost no bit
+  -- (a) the offset filter: after any number k of samples it has not saturated and has lost no bit
   pub offset : (k : ℕ) → let so = downscaled (take k sop) in run offset (kept c) so ≡ run plain-offset (kept c) so
   -- and its 16-bit output is from −32764 to 32764
   pub output : every (within (neg 32764) (pos 32764)) (sof c sop) ≡ true
@@ -58,7 +58,7 @@ pub record FrameSums (c : Coder) (sop : List ℤ) : Type 0 where
 pub record SubSums (dp d : List ℤ) : Type 0 where
   -- (c) each lag sum
   pub lag : (lag : ℕ) → Lag lag → Inside 1342177280 (correlations d dp at (lag - 40)) (pos 0) (zipWith L-mult (wt d) (back lag dp))
-  -- (d) the power at the lag, whichever it is
+  -- (d) the power at a lag, for every lag
   pub power : (lag : ℕ) → Lag lag → Inside 1342177280 (L-power lag dp) (pos 0) (squares 3 (back lag dp))
   -- which is not negative
   pub power-above : (lag : ℕ) → Lag lag → leZ (pos 0) (L-power lag dp) ≡ true

@@ -1,4 +1,4 @@
--- What a coder keeps and what a frame is coded by way of are words, in lists of their lengths, for as many frames as there are.
+-- What a coder keeps, and what is computed while a frame is coded, are words, in lists of the right lengths, over any number of frames.
 use Prim.Native.Nat.{ℕ, _<_}
 use mathlib.Core.Path.{_≡_, refl, _∙_}
 use mathlib.Core.Bool.{Bool, true}
@@ -33,7 +33,7 @@ use Rattle.law_lengths.specs.Frames.{CoderSizes, home-coder-sizes, parts-sized,
 use Rattle.pre_processing.specs.Promise.{emphasis-words}
 use Rattle.law_limits.specs.Signals.{kept, sof, s, scale, small, parts, part, history, lag, gain, e, x}
 
--- what every state of the code is by its types; z1 and L_z2 are bounded in a sound state
+-- what the types of the code say of every state; z1 and L_z2 are bounded by soundness instead
 pub record Carried (c : Coder) : Type 0 where
   pub sizes : CoderSizes c
   pub mp : word (c .mp) ≡ true
@@ -43,14 +43,14 @@ pub record Carried (c : Coder) : Type 0 where
 
 -- ---- over lists
 
--- what each pair makes is a word
+-- where f gives a word for each pair, the list has words only
 zip-words : (f : ℤ → ℤ → ℤ) → ((x y : ℤ) → SFits w16 (f x y)) → (xs ys : List ℤ) → every word (zipWith f xs ys) ≡ true
 unfolding every zipWith
 zip-words f h [] ys = refl
 zip-words f h (x ∷ xs) [] = refl
 zip-words f h (x ∷ xs) (y ∷ ys) = every-cons word (f x y) (zipWith f xs ys) .1 (word-yes (f x y) (h x y), zip-words f h xs ys)
 
--- what stands at each place is a word
+-- where f gives a word at each index, the table has words only
 tab-words : (f : ℕ → ℤ) (n : ℕ) → ((k : ℕ) → SFits w16 (f k)) → every word (tab f 0 n) ≡ true
 tab-words f n h = words-yes (tab f 0 n) (λ k l. rw (tab-at-zero f n k (pos 0) (rw tab-length at l)) (h k))
 

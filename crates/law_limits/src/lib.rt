@@ -1,1 +1,2 @@
-// Laws of 01's limits over a whole frame: six sums stay inside 32 bits, and one left shift loses bits; no code.
+// Laws over a whole frame (house rules, 'Six sums' and 'Left shifts'): six sums stay inside 32 bits, and only one left
+// shift loses bits. No code.

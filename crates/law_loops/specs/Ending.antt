@@ -1,4 +1,4 @@
--- How 4.2.5 ends, read off the EXITs of 001's own loop: it is the ending that the definition reads off what it measured.
+-- How 4.2.5 ends, by the EXITs of the standard's own loop. It is the ending of the definition, which counts the coefficients measured.
 use Prim.Native.Nat.{ℕ, zero, suc, _+_, _≤_}
 use mathlib.Core.Path.{_≡_, refl, ap, _∙_}
 use mathlib.Core.Bool.{Bool, true, false, cond}
@@ -17,8 +17,8 @@ use Rattle.standard.specs.Lpc.{Ending, silent, stopped, complete, ACF, reflecti
 use Rattle.law_lengths.specs.Analysis.{ACF-length, measured-length}
 use Rattle.law_loops.specs.Recursion.{PK-loop, PK-length, seen, measures, turn-measures, decides, P-start, K-start, sizes, start-measures}
 
--- the turn that EXITs because P[0] < abs( P[1] ), of turn n and the turns after it, k in all; n + k where none does,
--- which after the EXIT at n = 8 is 9
+-- the iteration that EXITs because P[0] < abs( P[1] ), of iteration n and those after it, k in all. Where none does it is n + k, which is
+-- 9 after the EXIT at n = 8
 unfoldable pub stop-loop : ℕ → ℕ → List ℤ → List ℤ → ℕ
 stop-loop zero n P K = n
 stop-loop (suc k) n P K =
@@ -27,7 +27,7 @@ stop-loop (suc k) n P K =
     let next = stop-loop k (suc n) (t .0) (t .1) in
     cond (ltZ (P at 0) (abs (P at 1))) n next
 
--- the ending by that turn: stopped at n, 1 to 8; complete otherwise
+-- the ending by that iteration: stopped at n, from 1 to 8; complete otherwise
 unfoldable pub ending-at : ℕ → Ending
 ending-at n = cond (leb n 8) (stopped n) complete
 
@@ -37,7 +37,7 @@ ending-loop L-acf P K =
     let acf = ACF L-acf in
     cond (is-zero (L-acf at 0)) silent (ending-at (stop-loop 8 1 (P-start acf P) (K-start acf K)))
 
--- of the last k turns, the one that EXITs comes after as many turns as the definition measures coefficients in k steps
+-- of the last k iterations, the one that EXITs comes after as many as the definition measures coefficients in k steps
 stop-loop-is : (k m : ℕ) (P K : List ℤ) → m + k ≡ 8 → length P ≡ 9 → length K ≡ 9
     → stop-loop k (suc m) P K ≡ suc m + length (measures k (seen k (P, K)))
 unfolding stop-loop measured tab
@@ -50,14 +50,14 @@ stop-loop-is (suc k) m P K e p q =
     decides (ltZ (P at 0) (abs (P at 1))) _ _ [] _ (λ x. suc m + length x) (λ _. omega arith)
     (λ _. omega (arith, later, ap length (turn-measures k m rn P K e p q)))
 
--- the turn that EXITs is one more than the definition measures of ACF[0..8]
+-- the number of the iteration that EXITs is one more than the count of coefficients that the definition measures of ACF[0..8]
 stop-is : (acf P K : List ℤ) → length acf ≡ 9 → length P ≡ 9 → length K ≡ 9
     → stop-loop 8 1 (P-start acf P) (K-start acf K) ≡ suc (length (measured 8 (acf at 0) (tail acf) (take 7 (tail acf))))
 stop-is acf P K a p q =
     let (b, c, _) = sizes acf P K a p q in
     omega (arith, stop-loop-is 8 0 (P-start acf P) (K-start acf K) refl b c, ap length (start-measures acf P K a p q))
 
--- the ending by turn n + 1 is the one by the n coefficients measured before it
+-- the ending by iteration n + 1 is the ending by the n coefficients measured before it
 ending-at-is : (n : ℕ) → n ≤ 8 → ending-at (suc n) ≡ cond (eqb n 8) complete (stopped (suc n))
 unfolding ending-at
 ending-at-is n h =
@@ -72,7 +72,7 @@ unless-silent : (b : Bool) (x : Ending) (m : List ℤ)
 unless-silent true x m e = refl
 unless-silent false x m e = e
 
--- 001's loop ends as the definition says
+-- the standard's loop ends as the definition says
 pub ending-is : (L-acf P K : List ℤ) → length L-acf ≡ 9 → length P ≡ 9 → length K ≡ 9 → ending-loop L-acf P K ≡ ending L-acf
 unfolding ending-loop ending schur
 ending-is L-acf P K a p q =

@@ -1,4 +1,4 @@
--- 001's filters on arrays: those of one state, sample by sample, and what the two lattices do with one sample, section by section.
+-- The standard's filters on arrays: the filters with one state, sample by sample; and the two lattices on one sample, section by section.
 use Prim.Native.Nat.{ℕ, _-_}
 use mathlib.Core.Path.{_≡_, refl}
 use mathlib.Core.List.{List, zipWith, zip}
@@ -17,7 +17,7 @@ use Rattle.standard.specs.Decoder.{inverse-section, synthesised, de-emphasis}
 
 -- ---- 4.2.2 Offset compensation
 
--- turn k, on z1, L_z2 and sof[0..159]
+-- iteration k, on z1, L_z2 and sof[0..159]
 unfoldable pub sof-turn : List ℤ → ℕ → Offset × List ℤ → Offset × List ℤ
 sof-turn so k (m, sof) =
     let s1 = sub (so at k) (m .z1) in
@@ -36,7 +36,7 @@ sof-loop m so = steps-run offset m so (pos 0)
 
 -- ---- 4.2.3 Pre-emphasis
 
--- turn k, on mp and s[0..159]
+-- iteration k, on mp and s[0..159]
 unfoldable pub s-turn : List ℤ → ℕ → ℤ × List ℤ → ℤ × List ℤ
 s-turn sof k (mp, s) = (sof at k, set s k (add (sof at k) (mult-r mp (neg 28180))))
 
@@ -47,7 +47,7 @@ s-loop mp sof = steps-run emphasis mp sof (pos 0)
 
 -- ---- 4.3.5 De-emphasis filtering
 
--- turn k, on msr and sro[0..159]
+-- iteration k, on msr and sro[0..159]
 unfoldable pub sro-turn : List ℤ → ℕ → ℤ × List ℤ → ℤ × List ℤ
 sro-turn sr k (msr, sro) =
     let srok = add (sr at k) (mult-r msr (pos 28180)) in
@@ -58,9 +58,9 @@ pub sro-loop : (msr : ℤ) (sr sro : List ℤ) → length sro ≡ length sr → 
 unfolding sro-turn de-emphasis
 sro-loop msr sr = steps-run de-emphasis msr sr (pos 0)
 
--- ---- 4.2.10: rp[i] stands at place i − 1
+-- ---- 4.2.10: rp[i] stands at index i − 1
 
--- turn i, on di, sav and u[0..7]
+-- iteration i, on di, sav and u[0..7]
 unfoldable pub section-turn : List ℤ → ℕ → ℤ × ℤ × List ℤ → ℤ × ℤ × List ℤ
 section-turn rp i (di, sav, u) =
     let temp = add (u at (i - 1)) (mult-r (rp at (i - 1)) di) in
@@ -78,9 +78,9 @@ pub analysis-is : (rp : List ℤ) (s : ℤ) (u : List ℤ) → length rp ≡ 8 �
 unfolding steps section-turn analysis-loop tab run zip zipWith section analysed
 analysis-is rp s = by-both (λ rp u. analysis-loop rp s u ≡ analysed u (rp, s)) (pos 0) 8 8 (λ f g. refl) rp
 
--- ---- 4.3.4: rrp[i] stands at place i − 1
+-- ---- 4.3.4: rrp[i] stands at index i − 1
 
--- turn i, on sri and v[0..8]
+-- iteration i, on sri and v[0..8]
 unfoldable pub inverse-turn : List ℤ → ℕ → ℤ × List ℤ → ℤ × List ℤ
 inverse-turn rrp i (sri, v) =
     let sri′ = sub sri (mult-r (rrp at (8 - i)) (v at (8 - i))) in

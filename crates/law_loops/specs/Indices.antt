@@ -1,4 +1,4 @@
--- 001's inner loops over arrays by index: the autocorrelation, the weighting filter, the coefficients of each sample.
+-- The standard's inner loops over arrays by index: the autocorrelation, the weighting filter, the coefficients of each sample.
 use Prim.Native.Nat.{ℕ, _+_, _-_, _<_, _≤_}
 use mathlib.Core.Path.{_≡_, refl, sym, ap, _∙_}
 use mathlib.Core.Bool.{cond}
@@ -21,11 +21,11 @@ use Rattle.law_loops.specs.Sums.{sum-loop}
 
 -- ---- 4.2.4: L_ACF[k]
 
--- turn i
+-- iteration i
 unfoldable pub L-ACF-turn : List ℤ → ℕ → ℕ → ℤ → ℤ
 L-ACF-turn s k i L-acf = L-add L-acf (L-mult (s at i) (s at (i - k)))
 
--- from 0 on, for i = k to 159, it is the definition's entry
+-- from L_ACF[k] = 0 on, for i = k to 159, it gives the definition's entry
 pub L-ACF-loop : (s : List ℤ) (k : ℕ) → length s ≡ 160 → k ≤ 8 → steps (L-ACF-turn s k) (160 - k) k (pos 0) ≡ L-ACF s at k
 unfolding L-ACF-turn L-ACF
 L-ACF-loop s k l h =
@@ -47,7 +47,7 @@ wt-copy e k wt = set wt k (e at (k - 5))
 unfoldable pub wt-loops : List ℤ → List ℤ → List ℤ
 wt-loops e wt = steps wt-zero 5 45 (steps (wt-copy e) 40 5 (steps wt-zero 5 0 wt))
 
--- turn i of x[k]
+-- iteration i of x[k]
 unfoldable pub x-turn : List ℤ → ℕ → ℕ → ℤ → ℤ
 x-turn wt k i L-result = L-add L-result (L-mult (wt at (k + i)) (H at i))
 

@@ -1,5 +1,5 @@
--- 001's loops that copy and place: the definitions, which cut and join lists, have at each place what 001 stores or reads there. dp[−120]
--- stands at place 0. Where an array has a fixed length, the loop is computed on its entries, whatever they are.
+-- The standard's loops that copy and position samples. The definitions cut and join lists; at each index they have what the standard stores
+-- or reads there. dp[−120] stands at index 0. Where an array has a fixed length, the loop is computed on its entries, whatever they are.
 use Prim.Native.Nat.{ℕ, _+_, _-_, _*_, _<_, _≤_}
 use mathlib.Core.Path.{_≡_, refl}
 use mathlib.Core.List.{List, _++_, zipWith, flatten}

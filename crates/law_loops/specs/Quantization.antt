@@ -1,4 +1,4 @@
--- 4.2.15's loops with itest, turn by turn: the exponent of xmax, and the exponent and mantissa of xmaxc.
+-- The loops of 4.2.15 with itest, iteration by iteration: the exponent of xmax, and the exponent and mantissa of xmaxc.
 use Prim.Native.Nat.{ℕ, zero, suc, _+_, _^_, _<_, _≤_}
 use mathlib.Core.Path.{_≡_, refl, ap, _∙_}
 use mathlib.Core.Bool.{true, false, cond}
@@ -23,7 +23,7 @@ use Rattle.law_arithmetic.specs.Clip.{plus-clip}
 
 -- ---- "Quantizing and coding of xmax to get xmaxc"
 
--- a turn, on exp, temp and itest
+-- an iteration, on exp, temp and itest
 unfoldable pub exp-turn : ℕ → ℤ × ℤ × ℕ → ℤ × ℤ × ℕ
 exp-turn i (exp, temp, itest) =
     let itest′ = cond (leZ temp (pos 0)) 1 itest in
@@ -35,33 +35,33 @@ pub shifted : (x : ℤ) (m n : ℕ) → x >> m >> n ≡ x >> (m + n)
 shifted (pos a) m n = ap pos (div-div-eq-div-mul a (2 ^ m) (2 ^ n) ∙ rw (pow-add 2 m n))
 shifted (negsuc a) m n = ap negsuc (div-div-eq-div-mul a (2 ^ m) (2 ^ n) ∙ rw (pow-add 2 m n))
 
--- a count that is far from the clip
+-- a sum of small counts does not saturate
 counted : (m n : ℕ) → m + n ≤ 32767 → add (pos m) (pos n) ≡ pos (m + n)
 counted m n h = omega (zar, plus-clip w16 (pos m) (pos n))
 
--- a turn where temp is 0 or less
+-- an iteration where temp is 0 or less
 stops : (i : ℕ) (exp temp : ℤ) (itest : ℕ) → leZ temp (pos 0) ≡ true → exp-turn i (exp, temp, itest) ≡ (exp, temp >> 1, 1)
 unfolding exp-turn
 stops i exp temp itest h = rw h
 
--- a turn where it is not, while itest is 0
+-- an iteration where temp is above 0, while itest is 0
 goes-on : (i : ℕ) (exp temp : ℤ) → leZ temp (pos 0) ≡ false → exp-turn i (exp, temp, 0) ≡ (add exp (pos 1), temp >> 1, 0)
 unfolding exp-turn
 goes-on i exp temp h = rw h
 
--- a turn where itest is 1 already
+-- an iteration where itest is 1 already
 stopped : (i : ℕ) (exp temp : ℤ) → exp-turn i (exp, temp, 1) ≡ (exp, temp >> 1, 1)
 unfolding exp-turn
 stopped i exp temp = ⊎-elim (λ h. rw h) (λ h. rw h) (either (leZ temp (pos 0)))
 
--- once itest is 1, exp stays
+-- once itest is 1, exp does not change
 exp-stays : (n i : ℕ) (exp temp : ℤ) → steps exp-turn n i (exp, temp, 1) .0 ≡ exp
 unfolding steps
 exp-stays zero i exp temp = refl
 exp-stays (suc n) i exp temp =
     ap (λ (t : ℤ × ℤ × ℕ). steps exp-turn n (suc i) t .0) (stopped i exp temp) ∙ exp-stays n (suc i) exp (temp >> 1)
 
--- until then exp counts the turns, and temp is xmax shifted by 9 and once more for each
+-- until then exp counts the iterations, and temp is xmax shifted right by 9, and by one more for each iteration
 exp-counts : (xmax : ℤ) (n i : ℕ) → i + n ≤ 6
     → steps exp-turn n i (pos i, xmax >> (9 + i), 0) .0 ≡ pos (first (λ i. leZ (xmax >> (9 + i)) (pos 0)) n i)
 unfolding steps first
@@ -74,7 +74,7 @@ exp-counts xmax (suc n) i h =
     (λ t. rw (stops i (pos i) temp 0 t) (exp-stays n (suc i) (pos i) (temp >> 1)))
     (λ t. rw (goes-on i (pos i) temp t, shifted xmax (9 + i) 1, counted i 1 (omega arith), a, b) (exp-counts xmax n (suc i) (omega arith)))
 
--- from exp = 0, temp = xmax >> 9 and itest = 0 on, six turns find the exponent
+-- from exp = 0, temp = xmax >> 9 and itest = 0 on, six iterations find the exponent
 pub exp-loop : (xmax : ℤ) → steps exp-turn 6 0 (pos 0, xmax >> 9, 0) .0 ≡ pos (exponent xmax)
 unfolding exponent
 exp-loop xmax = exp-counts xmax 6 0 (omega arith)
@@ -87,20 +87,20 @@ xmaxc-is xmax = rw (exp-loop xmax, counted (exponent xmax) 5 (omega (arith, firs
 
 -- ---- "Compute exponent and mantissa of the decoded version of xmaxc"
 
--- a turn of "Normalize mantissa", on exp, mant and itest
+-- an iteration of "Normalize mantissa", on exp, mant and itest
 unfoldable pub mant-turn : ℕ → ℤ × ℤ × ℕ → ℤ × ℤ × ℕ
 mant-turn i (exp, mant, itest) =
     let itest′ = cond (ltZ (pos 7) mant) 1 itest in
     let mant′ = cond (eqb itest′ 0) (add (mant << 1) (pos 1)) mant in
     (cond (eqb itest′ 0) (sub exp (pos 1)) exp, mant′, itest′)
 
--- three turns, unless mant is 0; then mant is less by 8
+-- three iterations, unless mant is 0; after that 8 is subtracted from mant
 unfoldable pub normalize : ℤ → ℤ → ℤ × ℤ
 normalize exp mant =
     let t = cond (is-zero mant) (neg 4, pos 15, 0) (steps mant-turn 3 0 (exp, mant, 0)) in
     (t .0, sub (t .1) (pos 8))
 
--- the whole, of xmaxc
+-- exponent and mantissa of xmaxc, by the whole procedure
 unfoldable pub exp-and-mant : ℤ → ℤ × ℤ
 exp-and-mant xmaxc =
     let exp = cond (ltZ (pos 15) xmaxc) (sub (xmaxc >> 3) (pos 1)) (pos 0) in

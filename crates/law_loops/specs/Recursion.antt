@@ -1,4 +1,4 @@
--- 4.2.5 as 001 writes it, on the arrays P[0..8], K[0..8] and r[1..8], changed in place: it comes to the definition's r[1..8].
+-- 4.2.5 as the standard writes it, on the arrays P[0..8], K[0..8] and r[1..8], changed in place: it gives the definition's r[1..8].
 use Prim.Native.Nat.{ℕ, zero, suc, _+_, _-_, _<_, _≤_}
 use mathlib.Core.Path.{_≡_, refl, ap, _∙_}
 use mathlib.Core.Bool.{Bool, true, false, cond}
@@ -19,9 +19,9 @@ use Rattle.standard.specs.Tables.{_at_}
 use Rattle.standard.specs.Lpc.{ACF, reflection, measured, schur, r as reflections}
 use Rattle.law_lengths.specs.Analysis.{ACF-length}
 
--- ---- "Schur recursion": P[0..8] and K[0..8] in turn n, with rn for r[n]
+-- ---- "Schur recursion": P[0..8] and K[0..8] in iteration n, with rn for r[n]
 
--- turn m of the inner loop
+-- iteration m of the inner loop
 unfoldable pub PK-turn : ℤ → ℕ → List ℤ × List ℤ → List ℤ × List ℤ
 PK-turn rn m (P, K) =
     let P′ = set P m (add (P at (m + 1)) (mult-r (K at (9 - m)) rn)) in
@@ -43,13 +43,13 @@ stepped k rn P K =
     let Ks = tab (λ j. K at (8 - j)) 0 (suc k) in
     (add (P at 0) (mult-r (P at 1) rn), zipWith (λ p k. add p (mult-r k rn)) Ps Ks, zipWith (λ p k. add k (mult-r p rn)) Ps Ks)
 
--- the two are the same, by computing the eight turns on arrays of any entries
+-- the two are the same: the eight iterations are computed on arrays of any entries
 PK-steps : (rn : ℤ) (f g : ℕ → ℤ) → let P = tab f 0 9 in let K = tab g 0 9 in
     tab (λ n. seen (8 - n) (PK-loop n rn P K)) 1 8 ≡ tab (λ n. stepped (8 - n) rn P K) 1 8
 unfolding steps PK-turn PK-loop tab zipWith
 PK-steps rn f g = refl
 
--- so what the definition sees after 001's turn n is what its own step makes
+-- so what the definition sees after the standard's iteration n is what its own step makes
 pub PK-step : (n : ℕ) (rn : ℤ) → 1 ≤ n → n ≤ 8 → (P K : List ℤ) → length P ≡ 9 → length K ≡ 9
     → seen (8 - n) (PK-loop n rn P K) ≡ stepped (8 - n) rn P K
 PK-step n rn p q =
@@ -64,7 +64,7 @@ unfolding steps PK-turn
 PK-inner-length rn zero i P K p q = (p, q)
 PK-inner-length rn (suc n) i P K p q = PK-inner-length rn n (suc i) _ _ (length-set P i _ ∙ p) (length-set K (9 - i) _ ∙ q)
 
--- and so does the whole turn
+-- and so does the whole iteration
 pub PK-length : (n : ℕ) (rn : ℤ) (P K : List ℤ) → length P ≡ 9 → length K ≡ 9
     → let t = PK-loop n rn P K in (length (t .0) ≡ 9) × (length (t .1) ≡ 9)
 unfolding PK-loop
@@ -74,20 +74,20 @@ PK-length n rn P K p q = PK-inner-length rn (8 - n) 1 _ K (length-set P 0 _ ∙ 
 abbrev pub measures : ℕ → ℤ × List ℤ × List ℤ → List ℤ
 measures k s = measured k (s .0) (s .1) (s .2)
 
--- after 001's turn m + 1, with k turns to come, it measures what it does after its own step
+-- after the standard's iteration m + 1, with k iterations to come, it measures what it measures after its own step
 pub turn-measures : (k m : ℕ) (rn : ℤ) (P K : List ℤ) → m + suc k ≡ 8 → length P ≡ 9 → length K ≡ 9
     → measures k (seen k (PK-loop (suc m) rn P K)) ≡ measures k (stepped k rn P K)
 turn-measures k m rn P K e p q =
     let g : 8 - suc m ≡ k = omega arith in
     ap (measures k) (rw g at (PK-step (suc m) rn (omega arith) (omega arith) P K p q))
 
--- ---- "Compute reflection coefficients". r[i] stands at place i − 1
+-- ---- "Compute reflection coefficients". r[i] stands at index i − 1
 
 -- r[i] = 0
 unfoldable pub r-zero : ℕ → List ℤ → List ℤ
 r-zero i r = set r (i - 1) (pos 0)
 
--- turn n and the turns after it, k in all
+-- iteration n and those after it, k in all
 unfoldable pub r-loop : ℕ → ℕ → List ℤ → List ℤ → List ℤ → List ℤ
 r-loop zero n P K r = r
 r-loop (suc k) n P K r =
@@ -109,13 +109,13 @@ zeros m h =
     (λ f.
     tab-each (λ m. steps r-zero (9 - suc m) (suc m) (tab f 0 8)) (λ m. take m (tab f 0 8) ++ padded (8 - m) []) 8 0 refl m (omega arith) h)
 
--- the EXIT at n = 8 leaves what no further turn would leave
+-- the EXIT at n = 8 gives what the loop with no further iteration gives
 exits : (k n : ℕ) (P K r : List ℤ) → n + k ≡ 8 → cond (eqb n 8) r (r-loop k (suc n) P K r) ≡ r-loop k (suc n) P K r
 unfolding r-loop
 exits k n P K r e =
     by-cond (λ x. x ≡ r-loop k (suc n) P K r) (eqb n 8) (λ h. let z : k ≡ 0 = omega (arith, eqb-true n 8 h) in rw z) (λ h. refl)
 
--- r[n] stands before the coefficients of the later turns
+-- r[n] stands before the coefficients of the later iterations
 stored : (k m : ℕ) (r : List ℤ) (rn : ℤ) {x y : List ℤ} → m < length r → x ≡ y
     → take (suc m) (set r m rn) ++ padded k x ≡ take m r ++ padded (suc k) (rn ∷ y)
 stored k m r rn {x} {y} h e =
@@ -128,7 +128,7 @@ pub decides : {A B : Type 0} (b : Bool) (x y : A) (u v : B) (F : B → A)
 decides true x y u v F p q = p refl
 decides false x y u v F p q = q refl
 
--- the last k turns store, after r[1..m], what the definition measures in k steps
+-- the last k iterations store, after r[1..m], what the definition measures in k steps
 r-loop-is : (k m : ℕ) (P K r : List ℤ) → m + k ≡ 8 → length P ≡ 9 → length K ≡ 9 → length r ≡ 8
     → r-loop k (suc m) P K r ≡ take m r ++ padded k (measures k (seen k (P, K)))
 unfolding r-loop measured tab
@@ -196,7 +196,7 @@ start-measures acf P K a p q =
     ap (measures 8) (started acf P K a p q)
     ∙ measured-reads 8 (acf at 0) (tail acf) (take 7 (tail acf)) (K at 1 ∷ []) (sizes acf P K a p q .2)
 
--- the eight turns measure what the definition does
+-- the eight iterations measure what the definition measures
 recursion-is : (acf P K r : List ℤ) → length acf ≡ 9 → length P ≡ 9 → length K ≡ 9 → length r ≡ 8
     → r-loop 8 1 (P-start acf P) (K-start acf K) r ≡ padded 8 (measured 8 (acf at 0) (tail acf) (take 7 (tail acf)))
 recursion-is acf P K r a p q l =

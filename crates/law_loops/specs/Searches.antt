@@ -1,4 +1,4 @@
--- 001's searches, turn by turn: a maximum, the lag, the gain, the grid.
+-- The standard's searches, iteration by iteration: a maximum, the lag, the gain, the grid.
 use Prim.Native.Nat.{ℕ, _+_, _-_, _*_, _≤_}
 use mathlib.Core.Path.{_≡_, refl, sym, ap, _∙_}
 use mathlib.Core.Bool.{cond}
@@ -24,24 +24,24 @@ use Rattle.law_loops.specs.Positions.{back-at, grid-at}
 
 -- ---- 4.2.4, 4.2.11, 4.2.15: smax, dmax, xmax
 
--- turn k of "Search for the maximum"
+-- iteration k of "Search for the maximum"
 unfoldable pub smax-turn : List ℤ → ℕ → ℤ → ℤ
 smax-turn s k smax =
     let temp = abs (s at k) in
     cond (ltZ smax temp) temp smax
 
--- from smax = 0 on, it finds the largest size
+-- from smax = 0 on, it finds the largest absolute value
 pub smax-loop : (s : List ℤ) → steps (smax-turn s) (length s) 0 (pos 0) ≡ peak s
 unfolding smax-turn peak largest
 smax-loop s = steps-fold (λ smax x. cond (ltZ smax (abs x)) (abs x) smax) s (pos 0) (pos 0) ∙ sym (foldl-map abs _ s (pos 0))
 
--- ---- 4.2.11: Nc and L_max. dp[k − lambda] stands at place 120 − lambda + k
+-- ---- 4.2.11: Nc and L_max. dp[k − lambda] stands at index 120 − lambda + k
 
 -- the inner loop: L_result at lambda
 unfoldable pub correlation : List ℤ → List ℤ → ℕ → ℤ
 correlation wt dp lambda = steps (λ k L-result. L-add (L-mult (wt at k) (dp at (120 - lambda + k))) L-result) 40 0 (pos 0)
 
--- turn lambda
+-- iteration lambda
 unfoldable pub Nc-turn : List ℤ → List ℤ → ℕ → ℕ × ℤ → ℕ × ℤ
 Nc-turn wt dp lambda (Nc, L-max) =
     let L-result = correlation wt dp lambda in
@@ -67,7 +67,7 @@ Nc-loop d dp p q =
 
 -- ---- 4.2.11: L_power
 
--- turn k
+-- iteration k
 unfoldable pub L-power-turn : List ℤ → ℕ → ℕ → ℤ → ℤ
 L-power-turn dp Nc k L-power =
     let wt = dp at (120 - Nc + k) >> 3 in
@@ -82,7 +82,7 @@ L-power-loop dp Nc p q l =
 
 -- ---- 4.2.11: bc
 
--- turn bc of "Coding of the LTP gain": EXIT with bc, or the next turn
+-- iteration bc of "Coding of the LTP gain": EXIT with bc, or the next iteration
 unfoldable pub bc-turn : ℤ → ℤ → ℕ → ℕ → ℕ
 bc-turn R S bc next = cond (leZ R (mult S (DLB at bc))) bc next
 
@@ -99,7 +99,7 @@ grid-energy x m =
     let temp1 : ℕ → ℤ = λ i. x at (m + 3 * i) >> 2 in
     steps (λ i L-result. L-add (L-mult (temp1 i) (temp1 i)) L-result) 13 0 (pos 0)
 
--- turn m
+-- iteration m
 unfoldable pub Mc-turn : List ℤ → ℕ → ℕ × ℤ → ℕ × ℤ
 Mc-turn x m (Mc, EM) =
     let L-result = grid-energy x m in

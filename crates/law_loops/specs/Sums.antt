@@ -1,4 +1,4 @@
--- 001's sums of products, `L_result = L_add( L_result, L_mult( .. ) )` and the same with the two the other way round, are L-sum.
+-- The standard's sums of products, `L_result = L_add( L_result, L_mult( .. ) )` and the same with the operands exchanged, are L-sum.
 use Prim.Native.Nat.{ℕ, _+_, _<_, min}
 use mathlib.Core.Path.{_≡_, ap, sym, _∙_}
 use mathlib.Core.List.{List, map, zipWith, foldl}
@@ -13,12 +13,12 @@ use Rattle.math_lists.specs.For.{steps-same, steps-tab, tab-is}
 use Rattle.standard.specs.Arithmetic.{_>>_, clip, plus, L-add, L-mult, L-sum, L-squares}
 use Rattle.standard.specs.Tables.{_at_}
 
--- L_add gives the same either way round
+-- L_add gives the same with its operands exchanged
 L-add-turned : (a b : ℤ) → L-add a b ≡ L-add b a
 unfolding plus
 L-add-turned a b = ap (clip w32) (+ℤ-comm a b)
 
--- n turns from k = i on, whose terms are the products of a's entries and b's
+-- n iterations from k = i on, whose terms are the products of the entries of a and b
 module _ (term : ℕ → ℤ) (n i : ℕ) (start : ℤ) (a b : List ℤ) (l : min (length a) (length b) ≡ n)
     (e : (j : ℕ) → j < n → term (i + j) ≡ L-mult (a at j) (b at j)) where
   -- L_result = L_add( L_result, L_temp )

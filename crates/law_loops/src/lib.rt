@@ -1,1 +1,1 @@
-// That the loops of clause 4, as 001 writes them, come to what the standard's definitions say; no code.
+// The loops of clause 4, as the standard writes them, give what the definitions of the crate `standard` say. No code.

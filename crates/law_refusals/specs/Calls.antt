@@ -1,4 +1,4 @@
--- 01, 'Refusal numbers', of each call: each number exactly when; and what a refusal hands back.
+-- House rules, 'Refusals', for each call: exactly when it gives each number, and what a refusal returns.
 use mathlib.Core.Path.{_≡_, refl, _∙_}
 use mathlib.Core.Option.{none, some}
 use mathlib.Core.List.{List, map}
@@ -17,7 +17,7 @@ use Rattle.standard.specs.Answers.{answer, Encoded, encode, Decoded, decode, De
 use Rattle.law_refusals.specs.Rows.{Exactly, three, answer-number}
 
 module _ (c : Coder) (s w : List ℤ) where
-  -- 1, 2 and 3 exactly when the samples are not 160, the codewords not 76, the state unsound, the lowest of several
+  -- 1, 2 and 3 exactly when the samples are not 160, the codewords are not 76, the state is unsound; the lowest number of several
   pub encode-exactly : Exactly (encode-refusal c s w) 160 76 1 2 3 s w (sound-coder c)
   unfolding encode-refusal
   encode-exactly = three 160 76 0 1 2 s w (sound-coder c)
@@ -40,14 +40,14 @@ module _ (c : Coder) (s w : List ℤ) where
   unfolding encode answer
   encode-done e = rw e
 
-  -- refused: the state as handed in, no ending, no marks, the codewords that were there
+  -- refused: the state as it was passed in, no ending, no marks, the codewords that were there before
   pub encode-refused : (n : ℕ) → encode-refusal c s w ≡ suc n
       → encode c s w ≡ record { number = suc n; state = c; ending = none; marks = replicate 4 none; codewords = w }
   unfolding encode answer
   encode-refused n e = rw e
 
 module _ (m : Decoder) (w s : List ℤ) where
-  -- so decode
+  -- the same for decode
   pub decode-exactly : Exactly (decode-refusal m w s) 160 76 1 2 3 s w (sound-decoder m)
   unfolding decode-refusal
   decode-exactly = three 160 76 0 1 2 s w (sound-decoder m)
@@ -63,18 +63,18 @@ module _ (m : Decoder) (w s : List ℤ) where
   unfolding decode answer
   decode-done e = rw e
 
-  -- refused: the state as handed in, the samples that were there
+  -- refused: the state as it was passed in, the samples that were there before
   pub decode-refused : (n : ℕ) → decode-refusal m w s ≡ suc n → decode m w s ≡ record { number = suc n; state = m; samples = s }
   unfolding decode answer
   decode-refused n e = rw e
 
 module _ (m : Decoder) (w : List ℤ) (o : List ℕ) where
-  -- and decode_alaw, whose first number counts octets
+  -- and for decode_alaw, where number 1 counts octets
   pub decode-alaw-exactly : Exactly (decode-alaw-refusal m w o) 160 76 1 2 3 o w (sound-decoder m)
   unfolding decode-alaw-refusal
   decode-alaw-exactly = three 160 76 0 1 2 o w (sound-decoder m)
 
-  -- lent as many octets as samples, it gives decode's number
+  -- for as many octets as samples it gives the number that decode gives
   pub decode-alaw-like : (s : List ℤ) → length o ≡ length s → decode-alaw-refusal m w o ≡ decode-refusal m w s
   unfolding decode-alaw-refusal decode-refusal
   decode-alaw-like s l = rw l
@@ -90,13 +90,13 @@ module _ (m : Decoder) (w : List ℤ) (o : List ℕ) where
   unfolding decode-alaw answer
   decode-alaw-done e = rw e
 
-  -- refused: the state as handed in, the octets that were there
+  -- refused: the state as it was passed in, the octets that were there before
   pub decode-alaw-refused : (n : ℕ) → decode-alaw-refusal m w o ≡ suc n
       → decode-alaw m w o ≡ record { number = suc n; state = m; octets = o }
   unfolding decode-alaw answer
   decode-alaw-refused n e = rw e
 
-  -- number and state are those of decode, lent as many samples
+  -- number and state are those of decode for as many samples
   pub decode-alaw-as : (s : List ℤ) → length o ≡ length s
       → (decode-alaw m w o .number ≡ decode m w s .number) × (decode-alaw m w o .state ≡ decode m w s .state)
   decode-alaw-as s l = by-number (decode-refusal m w s) refl
@@ -107,7 +107,7 @@ module _ (m : Decoder) (w : List ℤ) (o : List ℕ) where
       by-number (suc n) e = rw (decode-alaw-refused n (decode-alaw-like s l ∙ e), decode-refused m w s n e) (refl, refl)
 
 module _ (c : List ℤ) (b : List ℕ) where
-  -- 2, 4 and 5 exactly when the codewords are not 76, the bytes not 33, a codeword does not fit
+  -- 2, 4 and 5 exactly when the codewords are not 76, the bytes are not 33, a codeword does not fit its field
   pub pack-exactly : Exactly (pack-refusal c b) 76 33 2 4 5 c b (fits c)
   unfolding pack-refusal
   pack-exactly = three 76 33 1 3 4 c b (fits c)
@@ -122,13 +122,13 @@ module _ (c : List ℤ) (b : List ℕ) where
   unfolding pack answer
   pack-done e = rw e
 
-  -- refused: the bytes that were there
+  -- refused: the bytes that were there before
   pub pack-refused : (n : ℕ) → pack-refusal c b ≡ suc n → pack c b ≡ record { number = suc n; bytes = b }
   unfolding pack answer
   pack-refused n e = rw e
 
 module _ (b : List ℕ) (w : List ℤ) where
-  -- 2, 4 and 6 exactly when the codewords are not 76, the bytes not 33, a spare bit not 0
+  -- 2, 4 and 6 exactly when the codewords are not 76, the bytes are not 33, a spare bit is not 0
   pub unpack-exactly : Exactly (unpack-refusal b w) 76 33 2 4 6 w b (every (eqb 0) (spare b))
   unfolding unpack-refusal
   unpack-exactly = three 76 33 1 3 5 w b (every (eqb 0) (spare b))
@@ -143,7 +143,7 @@ module _ (b : List ℕ) (w : List ℤ) where
   unfolding unpack answer
   unpack-done e = rw e
 
-  -- refused: the codewords that were there
+  -- refused: the codewords that were there before
   pub unpack-refused : (n : ℕ) → unpack-refusal b w ≡ suc n → unpack b w ≡ record { number = suc n; codewords = w }
   unfolding unpack answer
   unpack-refused n e = rw e

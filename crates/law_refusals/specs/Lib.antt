@@ -1,2 +1,3 @@
+-- All that the specs of this crate have: what a refusal number says of the rows (Rows), and of each call (Calls).
 pub mod Rows
 pub mod Calls

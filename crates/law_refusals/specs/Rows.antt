@@ -1,4 +1,4 @@
--- 01, 'Refusal numbers': what a number tells of the rows that it was given from.
+-- House rules, 'Refusals': what a number says of the rows that it comes from.
 use mathlib.Core.Path.{_≡_, refl, sym, _∙_}
 use mathlib.Core.Bool.{Bool, true, false, not}
 use mathlib.Core.List.{List, [], _∷_}
@@ -10,7 +10,7 @@ use Rattle.math_lists.specs.Lengths.{sized-length}
 use Rattle.standard.specs.House.{refusal, not-of}
 use Rattle.standard.specs.Answers.{answer}
 
--- where the number is 0, what the first row asks is not wrong, and the rows after it give 0 too
+-- where the number is 0, the first row does not apply, and the rows after it give 0 too
 pub refusal-none : (wrong : Bool) (n : ℕ) (rows : List (Bool × ℕ))
     → refusal ((wrong, suc n) ∷ rows) ≡ 0 → (wrong ≡ false) × (refusal rows ≡ 0)
 unfolding refusal
@@ -31,12 +31,12 @@ unfolding answer
 answer-number number zero d r = d
 answer-number number (suc n) d r = r (suc n)
 
--- where the number is 0 it is what is done
+-- where the number is 0, the answer is that of the call that is done
 pub answer-done : {A : Type 0} (n : ℕ) (done : A) (refused : ℕ → A) → n ≡ 0 → answer n done refused ≡ done
 unfolding answer
 answer-done n done refused e = rw e
 
--- and else what a refusal gives, if that hangs on no number
+-- otherwise it is what a refusal gives, if that does not depend on the number
 pub answer-else : {A : Type 0} (n : ℕ) (done refused : A) → ¬ (n ≡ 0) → answer n done (λ _. refused) ≡ refused
 unfolding answer
 answer-else zero done refused h = absurd (h refl)
@@ -44,7 +44,7 @@ answer-else (suc n) done refused h = refl
 
 -- ---- three rows: two lengths, then a test
 
--- n is the number of the first that is wrong, and 0 exactly when none is
+-- n is the number of the first row that applies, and 0 exactly when none applies
 pub record Exactly {A B : Type 0} (n l m i j k : ℕ) (xs : List A) (ys : List B) (good : Bool) : Type 0 where
   pub first : ¬ (length xs ≡ l) → n ≡ i
   pub second : length xs ≡ l → ¬ (length ys ≡ m) → n ≡ j
@@ -52,7 +52,7 @@ pub record Exactly {A B : Type 0} (n l m i j k : ℕ) (xs : List A) (ys : List B
   pub allows : length xs ≡ l → length ys ≡ m → good ≡ true → n ≡ 0
   pub allowed : n ≡ 0 → (length xs ≡ l) × (length ys ≡ m) × (good ≡ true)
 
--- so is the number that such rows give
+-- the number that such rows give is so
 pub three : {A B : Type 0} (l m i j k : ℕ) (xs : List A) (ys : List B) (good : Bool)
     → Exactly (refusal ((not-of l xs, suc i) ∷ (not-of m ys, suc j) ∷ (not good, suc k) ∷ [])) l m (suc i) (suc j) (suc k) xs ys good
 unfolding refusal
@@ -74,7 +74,7 @@ three l m i j k xs ys good =
         let t = refusal-none (not good) k [] (s .1) in
         (sized-length l xs (not-false _ (r .0)), sized-length m ys (not-false _ (s .0)), not-false good (t .0))
 
--- it tells the same of another first list that is as long
+-- it says the same of another first list of the same length
 pub exactly-as : {A B C : Type 0} (n l m i j k : ℕ) (xs : List A) (zs : List C) (ys : List B) (good : Bool) → length zs ≡ length xs
     → Exactly n l m i j k xs ys good → Exactly n l m i j k zs ys good
 exactly-as n l m i j k xs zs ys good e x =

@@ -1,1 +1,1 @@
-// Laws of the refusal numbers; no code.
+// Laws of the refusal numbers (house rules, 'Refusals'). No code.

@@ -1,4 +1,5 @@
--- 4.2.2: the 31 by 16 bits multiplication by 32735, in its two parts, is the plain one, rounded: no clip is met, and no bit is lost.
+-- 4.2.2: the 31 by 16 bits multiplication by 32735, done in two parts, is the plain product, rounded. Nothing saturates, and no bit is
+-- lost.
 use Prim.Native.Nat.{suc, _+_, _*_, _-_, _%_, _<_, _≤_}
 use mathlib.Core.Path.{_≡_, ap, _∙_}
 use mathlib.Core.Bool.{true}
@@ -40,14 +41,14 @@ decayed-shift x k =
 
 -- ---- in two parts
 
--- the high part and the low part, as 001 computes them
+-- the high part and the low part, as the standard computes them
 abbrev pub msp : ℤ → ℤ
 msp x = low (x >> 15)
 
 abbrev pub lsp : ℤ → ℤ
 lsp x = low (L-sub x (up w32 (msp x) 15))
 
--- what they come to together
+-- x is its low part plus 32768 times its high part
 parts : (x : ℤ) → x ≡ pos (modulo x 32768) +ℤ pos 32768 *ℤ (x >> 15)
 unfolding modulo
 parts (pos n) = omega (zar, mul-is (pos 32768) (pos n >> 15), add-is (pos (n % 32768)) (pos 32768 *ℤ (pos n >> 15)))
@@ -92,7 +93,7 @@ module _ (x : ℤ) (h : long-range x ≡ true) where
       let b : modulo x 32768 < 32768 = modulo-below x (omega arith) in
       mult-r-plain r (pos 32735) (omega zar) (omega zar) (omega arith) ∙ ap (λ (y : ℤ). (y +ℤ pos 16384) >> 15) (*ℤ-comm r (pos 32735))
 
-  -- added up, and to 31 bits more: the plain product and the plain sum
+  -- their sum, and the sum with a number of 31 bits: the plain product and the plain sum
   pub recursive-plain : (s : ℤ) → long-range s ≡ true → recursive x s ≡ s +ℤ decayed x
   unfolding recursive
   recursive-plain s g =

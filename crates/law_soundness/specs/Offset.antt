@@ -1,5 +1,5 @@
--- 4.2.1 and 4.2.2, one sample: from a sound state the offset filter meets no clip and loses no bit, its output is from −32764 to 32764, and
--- the state stays sound.
+-- 4.2.1 and 4.2.2, one sample: from a sound state the offset filter does not saturate and loses no bit, its output is from −32764 to
+-- 32764, and the state stays sound. In each step the distance of L_z2 from 32768 · z1 decays, and 33 · z1 is subtracted from it.
 use Prim.Native.Nat.{_≤_}
 use mathlib.Core.Path.{_≡_, refl, sym, ap, _∙_}
 use mathlib.Core.Bool.{Bool, true, _&&_, and-eq-true-iff}
@@ -29,11 +29,11 @@ downscaled-in x f =
 abbrev pub error : Offset → ℤ
 error m = m .L-z2 -ℤ pos 32768 *ℤ m .z1
 
--- 01's two tests of an encoder state, of what the filter keeps
+-- the two tests of an encoder state (house rules, 'Soundness'), on what the filter keeps
 abbrev pub sound-offset : Offset → Bool
 sound-offset m = so-range (m .z1) && error-range (error m)
 
--- the step on integers, with no clip and no bits left off
+-- the step on integers, without a clip and without lost bits
 unfoldable pub plain-offset : Offset → ℤ → Offset × ℤ
 plain-offset m so =
     let L-z2 = pos 32768 *ℤ (so -ℤ m .z1) +ℤ decayed (m .L-z2) in
@@ -48,7 +48,7 @@ module _ (x : ℤ) (h : L-z2-range x ≡ true) where
       let y = x +ℤ pos 16384 in
       omega (arith, range-is 1073611249 1073611249 x h, add-is x (pos 16384), apart y, shr-is y 32768 (omega arith))
 
-  -- so no clip is met, and no bit is lost
+  -- so nothing saturates, and no bit is lost
   rounded-plain : low (L-add x (pos 16384) >> 15) ≡ (x +ℤ pos 16384) >> 15
   rounded-plain =
       rw (plus-plain {w = w32} x (pos 16384) (omega (zar, range-is 1073611249 1073611249 x h, add-is x (pos 16384))))

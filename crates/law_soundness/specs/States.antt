@@ -41,7 +41,7 @@ module _ (m : Offset) (s : List ℤ) (h : sound-offset m ≡ true) (w : every wo
   pub offset-all-in : every sof-range (run offset m (downscaled s) .1) ≡ true
   offset-all-in = kept .1
 
--- so the filter meets no clip and loses no bit over a frame
+-- so the filter does not saturate and loses no bit over a frame
 pub offset-all-plain : (m : Offset) (s : List ℤ) → sound-offset m ≡ true → every word s ≡ true
     → run offset m (downscaled s) ≡ run plain-offset m (downscaled s)
 offset-all-plain m s h w =
@@ -55,18 +55,18 @@ pub home-coder-sound : sound-coder home-coder ≡ true
 unfolding home-coder sound-coder
 home-coder-sound = refl
 
--- a sound coder that codes words is sound
+-- a sound coder that has coded words is still sound
 pub coded-sound : (c : Coder) (s : List ℤ) → sound-coder c ≡ true → every word s ≡ true → sound-coder (coded c s .0) ≡ true
 unfolding sound-coder coded analysis
 coded-sound c s h w = offset-all-sound (record { z1 = c .z1; L-z2 = c .L-z2 }) s h w
 
--- whatever the number of frames
+-- and so after any number of frames
 pub coded-all-sound : (c : Coder) (frames : List (List ℤ))
     → sound-coder c ≡ true → every (every word) frames ≡ true → sound-coder (run coded c frames .0) ≡ true
 coded-all-sound c frames h w =
     run-keeps coded (λ c. sound-coder c ≡ true) (every word) (λ t. true) (λ c s h w. (coded-sound c s h w, refl)) c frames h w .0
 
--- so is what encode hands back, refused or not
+-- the state that encode returns is sound too, whether the call is refused or not
 pub encode-sound : (c : Coder) (s w : List ℤ) → sound-coder c ≡ true → every word s ≡ true → sound-coder (encode c s w .state) ≡ true
 unfolding encode
 encode-sound c s w h e =
@@ -89,7 +89,7 @@ decoded-all-sound m frames h =
     run-keeps decoded (λ m. sound-decoder m ≡ true) (λ f. true) (λ s. true) (λ m f h _. (decoded-sound m f h, refl))
     m frames h (every-all _ (λ f. refl) frames) .0
 
--- so is what decode hands back, refused or not
+-- the state that decode returns is sound too, whether the call is refused or not
 pub decode-sound : (m : Decoder) (w s : List ℤ) → sound-decoder m ≡ true → sound-decoder (decode m w s .state) ≡ true
 unfolding decode
 decode-sound m w s h =

@@ -1,1 +1,2 @@
-// Laws of the carried states: a sound one stays sound, and the offset filter meets no limit; no code.
+// Laws of the carried states (house rules, 'Soundness'): a sound state stays sound, and from it the offset filter does
+// not saturate. No code.

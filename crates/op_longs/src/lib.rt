@@ -1,4 +1,5 @@
-// 4.1: the operations on long words. All is done on 32 bits: a sum is tested against the limit less one operand before it is made.
+// 4.1: the operations on long words. All is done on 32 bits: before a sum is made, one operand is compared with the
+// limit less the other operand.
 ghost use mathlib.Core.Path.{_≡_};
 ghost use mathlib.Core.Bool.{true};
 ghost use lib.IntN.{pos};
@@ -38,7 +39,7 @@ pub fn l_sub(a: i32, b: i32) -> i32
     }
 }
 
-// Twice the product, which only the two least words take past the limit.
+// Twice the product. Only -32768 times -32768 goes beyond the limit.
 pub fn l_mult(a: i16, b: i16) -> i32
     ensures { λ r. ⌜ r ≡ L-mult a b ⌝ }
 {
@@ -53,14 +54,14 @@ pub fn long_word(a: i16) -> i32
     a as i32
 }
 
-// var2 = L_var1: the low 16 bits, by way of the top of the long word and back.
+// var2 = L_var1: the low 16 bits, shifted left to the top of the long word and then right again.
 pub fn low_word(a: i32) -> i16
     ensures { λ r. ⌜ r ≡ keep w16 a ⌝ }
 {
     ((a << 16) >> 16) as i16
 }
 
-// One less than the zeros above the highest bit of a positive number.
+// The count of leading zeros of a positive number, less 1.
 pub fn norm(a: i32) -> i16
     requires { ⌜ ltZ (pos 0) a ≡ true ⌝ }
     ensures { λ r. ⌜ r ≡ norm a ⌝ }

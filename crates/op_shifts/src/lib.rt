@@ -1,5 +1,5 @@
-// 4.1: both shifts, of a word and of a long word. To the right they round down; to the left they keep the low bits; a negative
-// count shifts the other way.
+// 4.1: both shifts, of a word and of a long word. A right shift rounds down. A left shift keeps the low bits. A
+// negative count shifts in the other direction.
 ghost use mathlib.Core.Path.{_≡_};
 ghost use Prim.Native.Nat.{_^_};
 ghost use lib.IntN.{natAbs};
@@ -8,7 +8,7 @@ ghost use mir.Syntax.{w16, w32};
 ghost use Rattle.standard.specs.Arithmetic.{up, shr, shl};
 ghost use Rattle.standard.specs.Lpc.{normalized};
 
-// The size of a count.
+// The absolute value of a count.
 fn size(n: i16) -> u16
     ensures { λ r. ⌜ r ≡ natAbs n ⌝ }
 {
@@ -19,26 +19,28 @@ fn size(n: i16) -> u16
     }
 }
 
-// From 15 on only the sign is left.
+// x >> n of a word, for n >= 0. From 15 on only the sign is left.
 fn down_word(x: i16, n: u16) -> i16
     ensures { λ r. ⌜ r ≡ shrZ x (2 ^ n) ⌝ }
 {
     if n < 15 { x >> n } else { x >> 15 }
 }
 
-// From 16 on nothing is left.
+// x << n of a word, for n >= 0. From 16 on nothing is left.
 fn up_word(x: i16, n: u16) -> i16
     ensures { λ r. ⌜ r ≡ up w16 x n ⌝ }
 {
     if n < 16 { x << n } else { 0 }
 }
 
+// x >> n of a long word, for n >= 0. From 31 on only the sign is left.
 fn down_long(x: i32, n: u16) -> i32
     ensures { λ r. ⌜ r ≡ shrZ x (2 ^ n) ⌝ }
 {
     if n < 31 { x >> n } else { x >> 31 }
 }
 
+// x << n of a long word, for n >= 0. From 32 on nothing is left.
 fn up_long(x: i32, n: u16) -> i32
     ensures { λ r. ⌜ r ≡ up w32 x n ⌝ }
 {
@@ -56,7 +58,7 @@ pub fn shr(x: i16, n: i16) -> i16
     }
 }
 
-// x << n of a word: the wrapping helper of 4.2.4's rescaling.
+// x << n of a word. The rescaling of 4.2.4 uses it; there it can lose high bits.
 pub fn shl(x: i16, n: i16) -> i16
     ensures { λ r. ⌜ r ≡ shl w16 x n ⌝ }
 {

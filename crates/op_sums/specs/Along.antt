@@ -1,4 +1,4 @@
--- For a loop that adds up products: what it has after i of them, and what it comes to.
+-- For a loop that adds products: what the sum is after i of them, and what it is at the end.
 use Prim.Native.Nat.{ℕ, suc, _+_, _*_, _<_, _≤_}
 use mathlib.Core.Path.{_≡_, refl, sym, ap, _∙_}
 use mathlib.Core.Logic.{⊎-elim}
@@ -19,7 +19,7 @@ use Rattle.standard.specs.Tables.{_at_}
 use Rattle.op_sums.specs.Room.{L-sum-plain}
 
 module _ (a b : List ℤ) (most : ℕ) where
-  -- s is the sum of the first i products, of which none passes the bound
+  -- s is the sum of the first i products, none of which is above the bound
   pub record Sum (i : ℕ) (s : ℤ) : Type 0 where
     pub rest : foldl _+ℤ_ s (drop i (zipWith _*ℤ_ a b)) ≡ foldl _+ℤ_ (pos 0) (zipWith _*ℤ_ a b)
     pub near : natAbs s ≤ i * most
@@ -30,7 +30,7 @@ module _ (a b : List ℤ) (most : ℕ) where
   sum-start = record { rest = refl; near = omega arith; each = λ j h. absurd (omega arith) }
 
   module _ (l : length a ≡ length b) (f : length a * most < 1073741824) {i : ℕ} {s : ℤ} (h : Sum i s) where
-    -- a turn: there is room for one more product
+    -- an iteration: the sum with one more product fits
     module _ {p : ℤ} (k : i < length a) (e : p ≡ a at i *ℤ b at i) (g : natAbs p ≤ most) where
       pub sum-room : SFits w32 (s +ℤ p)
       sum-room =

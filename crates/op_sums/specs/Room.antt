@@ -1,4 +1,4 @@
--- Where the sum of the products of two lists has room: no step of it comes near the limit, so it is the plain sum, doubled once.
+-- Where the sum of the products of two lists cannot saturate: no step of it reaches the limit, so it is the plain sum, doubled once.
 use Prim.Native.Nat.{ℕ, _+_, _*_, _-_, _^_, _<_, _≤_}
 use mathlib.Core.Path.{_≡_, refl, sym, ap, _∙_}
 use mathlib.Core.Bool.{Bool}
@@ -25,7 +25,7 @@ use Rattle.law_arithmetic.specs.Sum.{sum-in, sum-plain}
 abbrev pub at-most : ℕ → ℤ → Bool
 at-most b z = leb (natAbs z) b
 
--- two lists of one length, with a bound on the product of two words of theirs that leaves room for all of them
+-- two lists of one length, with a bound of the products of their words; the bound times the length is below 2 ^ 30
 pub record Room (a b : List ℤ) : Type 0 where
   pub same : length a ≡ length b
   pub most : ℕ
@@ -65,7 +65,7 @@ doubled s (x ∷ a) (y ∷ b) = ap (λ (t : ℤ). foldl _+ℤ_ t (zipWith twice 
 
 module _ (a b : List ℤ) (most : ℕ) (l : length a ≡ length b) (e : (i : ℕ) → i < length a → natAbs (a at i *ℤ b at i) ≤ most)
     (f : length a * most < 1073741824) where
-  -- where there is a product, the bound has 30 bits
+  -- each product is below 2 ^ 30
   below : (i : ℕ) → i < length a → natAbs (a at i *ℤ b at i) < 1073741824
   below i h = let m : 1 * most ≤ length a * most = mul-le-mul-right most (omega arith) in omega (arith, e i h)
 
@@ -75,7 +75,7 @@ module _ (a b : List ℤ) (most : ℕ) (l : length a ≡ length b) (e : (i : ℕ
   product-is : (i : ℕ) → i < length a → zipWith L-mult a b at i ≡ twice (a at i) (b at i)
   product-is i h = zip-at L-mult a b i (pos 0) (pos 0) (pos 0) h (omega arith) ∙ L-mult-small (a at i) (b at i) (below i h)
 
-  -- no L_mult meets its limit
+  -- no L_mult saturates
   products-plain : zipWith L-mult a b ≡ zipWith twice a b
   products-plain =
       ext-getD (pos 0) _ _ (products-length ∙ sym (omega (arith, zip-length twice a b)))

@@ -4,10 +4,10 @@ use lib.IntN.{ℤ}
 use Rattle.math_lists.specs.Best.{Best}
 use Rattle.op_sums.specs.declared.Found.{Found}
 
--- a place and what it holds
+-- an index and the sum there
 abbrev pub best-of : ℕ → ℤ → Best
 best-of at sum = record { at = at; sum = sum }
 
--- what the code's best stands for
+-- the code's best, as the `Best` of the definitions
 abbrev pub chosen : Found → Best
 chosen f = best-of (f .at) (f .sum)

@@ -1,4 +1,4 @@
--- A sum of products that has room is the sum over the first n pairs and the sum over those after them, added plainly.
+-- A sum of products that cannot saturate is the plain sum of two parts: the sum over the first n pairs and the sum over those after them.
 use Prim.Native.Nat.{ℕ, _+_, _*_, _-_, _<_, _≤_}
 use mathlib.Core.Path.{_≡_, refl, sym, ap, ap₂, _∙_}
 use mathlib.Core.List.{List, [], _∷_, _++_, zipWith, foldl, foldl-append}

@@ -1,5 +1,5 @@
-// Over a list: the largest size, the sum of products, the sum of squares. 01's sums (b) to (d) never meet
-// their limit, so these are plain additions, which the compiler turns into vector code.
+// Over a list: the largest absolute value, the sum of products, the sum of squares. The sums (b) to (d) never saturate
+// (house rules, 'Six sums'), so these are plain additions, which the compiler turns into vector code.
 ghost use mathlib.Core.Path.{_≡_};
 ghost use mathlib.Core.Bool.{cond};
 ghost use Prim.Native.Nat.{_*_, _-_, _^_, _<_, _≤_};
@@ -10,12 +10,13 @@ ghost use Rattle.standard.specs.Arithmetic.{peak, L-sum, L-squares};
 ghost use Rattle.op_sums.specs.Room.{Room};
 ghost use Rattle.op_sums.specs.Search.{chosen, best-of};
 
-// The best place so far, and its sum.
+// The best index so far, and its sum.
 pub struct Found {
     pub at: usize,
     pub sum: i32,
 }
 
+// The larger of two words.
 fn larger(max: i16, temp: i16) -> i16
     ensures { λ r. ⌜ r ≡ cond (ltZ max temp) temp max ⌝ }
 {
@@ -33,7 +34,7 @@ pub fn peak(s: &[i16]) -> i16
     max
 }
 
-// 4.2.4, 4.2.11: the sum of L_mult of each pair, where there is room for it. It is doubled once, at the end.
+// 4.2.4, 4.2.11: the sum of L_mult of each pair, where it cannot saturate (`Room`). It is doubled once, at the end.
 pub fn l_sum(a: &[i16], b: &[i16]) -> i32
     requires { ⌜ Room (now a) (now b) ⌝ }
     ensures { λ r. ⌜ r ≡ L-sum (pos 0) (now (a .entry)) (now (b .entry)) ⌝ }
@@ -58,7 +59,7 @@ pub fn l_squares(n: u16, xs: &[i16]) -> i32
     sum + sum
 }
 
-// 4.2.11, 4.2.14: only a strictly greater sum replaces the one before, so that a tie goes to the first place.
+// 4.2.11, 4.2.14: only a strictly greater sum replaces the one before, so of equal sums the first index is kept.
 pub fn better(found: Found, at: usize, sum: i32) -> Found
     ensures { λ r. ⌜ chosen r ≡ cond (ltZ (found .sum) sum) (best-of at sum) (chosen found) ⌝ }
 {

@@ -1,4 +1,4 @@
--- What the stages use of 4.4's tables.
+-- What the stages use of the tables of 4.4: what a table has beyond its end, bounds of all entries, and the fields of LARc.
 use Prim.Native.Nat.{ℕ, _-_, _^_, _<_, _≤_}
 use mathlib.Core.Path.{_≡_, refl, sym, ap, _∙_}
 use mathlib.Core.Bool.{Bool, true}
@@ -17,11 +17,11 @@ use Rattle.math_lists.specs.Every.{every, every-at}
 use Rattle.math_lists.specs.Tab.{map-at, zip-at}
 use Rattle.standard.specs.Tables.{_at_, MIC, MAC, FAC, NRFAC, LARc-widths}
 
--- past its end a table has what is asked for there: 0
+-- beyond its end a table gives the default d, which is 0 in the tables
 pub past-end : {A : Type 0} {d : A} (t : List A) {i : ℕ} → length t ≤ i → d ≡ getD t i d
 past-end {A} {d} t {i} h = sym (List·getD-eq-default t d {n = i} h)
 
--- what 0 and every entry pass, each place passes
+-- a test that 0 and every entry pass, is passed at each index
 passes : (p : ℤ → Bool) (t : List ℤ) → p (pos 0) ≡ true → every p t ≡ true → (i : ℕ) → p (t at i) ≡ true
 passes p t z e i = ⊎-elim (λ h. rw (← past-end {d = pos 0} t {i = i} h) z) (λ h. every-at p t i (pos 0) e h) (le-or-lt (length t) i)
 

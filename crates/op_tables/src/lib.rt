@@ -1,5 +1,5 @@
-// 4.4: the tables, as constant arrays. Coefficient i of 001's tables 4.1 and 4.2, from 1 to 8, stands at place i - 1. Past its
-// end a table gives 0, in the definition too, so nothing is asked of the caller.
+// 4.4: the tables, as constant arrays. Coefficient i of tables 4.1 and 4.2, from 1 to 8, stands at index i - 1. Beyond
+// its end a table gives 0, in the definition too, so the caller has nothing to prove.
 ghost use mathlib.Core.Path.{_≡_};
 ghost use Rattle.standard.specs.Tables.{_at_};
 ghost use Rattle.standard.specs.Tables as table;

@@ -1,5 +1,5 @@
-// 4.1: the operations whose result is a word, and the ways between words and places. Each promise is that the result is the
-// standard's, exact at the ends of the range.
+// 4.1: the operations whose result is a word, and the conversions between a word and an index. Each promise is that the
+// result is the standard's, exact at the ends of the range.
 ghost use mathlib.Core.Path.{_≡_};
 ghost use lib.IntN.{pos};
 ghost use mir.Syntax.{w16};
@@ -31,7 +31,7 @@ pub fn sub(a: i16, b: i16) -> i16
     clip_word(a as i32 - b as i32)
 }
 
-// The shift rounds down, below 0 too.
+// The shift rounds down, for negative products too.
 pub fn mult(a: i16, b: i16) -> i16
     ensures { λ r. ⌜ r ≡ mult a b ⌝ }
 {
@@ -45,7 +45,7 @@ pub fn mult_r(a: i16, b: i16) -> i16
     clip_word((a as i32 * b as i32 + 16384) >> 15)
 }
 
-// The least word has no counterpart: its absolute value is the greatest.
+// abs(-32768) is 32767, because 32768 is no word.
 pub fn abs(a: i16) -> i16
     ensures { λ r. ⌜ r ≡ abs a ⌝ }
 {
@@ -58,7 +58,7 @@ pub fn abs(a: i16) -> i16
     }
 }
 
-// The fraction num / denum in 15 bits. A zero numerator gives 0, whatever the divisor.
+// The fraction num / denum in 15 bits. A zero numerator gives 0, for every divisor.
 pub fn div(num: i16, denum: i16) -> i16
     ensures { λ r. ⌜ r ≡ div num denum ⌝ }
 {
@@ -73,14 +73,14 @@ pub fn div(num: i16, denum: i16) -> i16
     }
 }
 
-// A word as a place in a table or a list; 0 where it is negative.
+// A word as an index of a table or a list; 0 where it is negative.
 pub fn place_of(n: i16) -> usize
     ensures { λ r. ⌜ r ≡ P n ⌝ }
 {
     if n < 0 { 0 } else { n as usize }
 }
 
-// A place or a count as a word.
+// An index or a count as a word; it saturates at 32767.
 pub fn word_of(n: usize) -> i16
     ensures { λ r. ⌜ r ≡ clip w16 (pos n) ⌝ }
 {

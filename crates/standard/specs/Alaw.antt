@@ -48,8 +48,8 @@ placed n =
 abbrev pub limited : ℕ → ℕ
 limited n = min n 4095
 
--- the code of a value v: below 0 it is made of −v − 1, with the top bit clear; any other v is taken as it is, with the top bit set. Then the
--- even bits are inverted
+-- the code of a value v: below 0 it is made of −v − 1, with the top bit clear; any other v is taken as it is, with the top bit set. Then
+-- the even bits are inverted
 unfoldable pub compressed : ℤ → ℕ
 compressed (pos n) = turned (128 + placed (limited n))
 compressed (negsuc n) = turned (placed (limited n))

@@ -1,4 +1,4 @@
--- The limit less b fits where b has the sign that could take a sum past it; the test then says on which side of it the sum is.
+-- The limit less b fits in 32 bits, because only the limit that b can pass is used. The test then says whether the sum is beyond it.
 use mathlib.Core.Path.{_≡_, sym, _∙_}
 use lib.IntN.{ℤ, pos, negsuc, _+ℤ_, _-ℤ_}
 use mir.Syntax.{w32}

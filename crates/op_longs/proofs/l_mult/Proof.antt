@@ -1,3 +1,4 @@
+-- The product fits in 32 bits. Its double does too, unless the product is 2 ^ 30, which the test catches; the clip then gives the limit.
 use mathlib.Core.Path.{_≡_, sym, _∙_}
 use lib.IntN.{ℤ, _+ℤ_, _*ℤ_}
 use mir.Syntax.{w16, w32}

@@ -1,4 +1,4 @@
--- As for l_add: the limit and b together fit, and the test says on which side of the limit the difference is.
+-- As in l_add: the limit plus b fits in 32 bits, and the test says whether the difference is beyond the limit.
 use mathlib.Core.Path.{_≡_, sym, _∙_}
 use lib.IntN.{ℤ, pos, negsuc, _+ℤ_, _-ℤ_}
 use mir.Syntax.{w32}

@@ -1,3 +1,4 @@
+-- Every word is a long word, so the cast is exact.
 use Rattle.math_integers.specs.Ranges.{zfits}
 use Rattle.op_longs.proofs.long_word.Statement.{statement}
 use Rattle.op_longs.proofs.long_word.Tie as tie

@@ -1,3 +1,4 @@
+-- A shift left by 16 and a shift right by 16 keep the low 16 bits, as a word with its sign (`low-word`). So the cast is exact.
 use Prim.Native.Nat.{_*_, _%_}
 use mathlib.Core.Path.{_≡_, ap, subst⁻¹, _∙_}
 use lib.IntN.{ℤ}

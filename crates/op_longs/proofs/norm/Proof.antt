@@ -1,3 +1,4 @@
+-- By the law `normal`, norm of a positive long word is the count of leading zeros less 1. So the subtraction and the casts are exact.
 use Prim.Native.Nat.{suc}
 use mathlib.Core.Path.{_≡_, sym, ap, _∙_}
 use native.Mathlib.Omega.{arith}

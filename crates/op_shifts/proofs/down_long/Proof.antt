@@ -1,3 +1,4 @@
+-- Below 31 the machine's shift is the division rounded down (`down-bits`). From 31 on every shift gives what 31 gives (`down-all`).
 use mathlib.Core.Path.{sym, _∙_}
 use native.Mathlib.Omega.{arith}
 use borrow.Author.Needs.{needs}

@@ -1,3 +1,4 @@
+-- Below 15 the machine's shift is the division rounded down (`down-bits`). From 15 on every shift gives what 15 gives (`down-all`).
 use mathlib.Core.Path.{sym, _∙_}
 use native.Mathlib.Omega.{arith}
 use borrow.Author.Needs.{needs}

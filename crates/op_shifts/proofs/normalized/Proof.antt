@@ -1,3 +1,4 @@
+-- A long word shifted right by 16 is a word, so the cast loses nothing and the `low` of the definition changes nothing.
 use mathlib.Core.Path.{_≡_, sym, _∙_}
 use native.Mathlib.Omega.{arith}
 use lib.IntN.{ℤ}

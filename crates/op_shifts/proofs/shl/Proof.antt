@@ -1,3 +1,4 @@
+-- The sign of the count decides: by `shl-right` a negative count is a right shift by its size, by `shl-left` any other is a left shift.
 use borrow.Author.Needs.{needs}
 use mir.Syntax.{w16}
 use Rattle.math_integers.specs.Ranges.{back, res}

@@ -1,3 +1,4 @@
+-- The sign of the count decides: by `shr-left` a negative count is a left shift by its size, by `shr-right` any other is a right shift.
 use borrow.Author.Needs.{needs}
 use mir.Syntax.{w16}
 use Rattle.math_integers.specs.Ranges.{back, res}

@@ -1,3 +1,4 @@
+-- A negative count is subtracted from 0 in 32 bits, where 32768 fits. The result is at most 32768, so it fits in 16 bits without a sign.
 use lib.IntN.{pos}
 use mir.Syntax.{w16, w32}
 use Rattle.math_integers.specs.Halves.{zar, know, mem}

@@ -1,3 +1,4 @@
+-- Below 32 the machine's shift keeps the low bits of the product by 2 ^ n (`up-bits`). From 32 on the low bits are 0 (`up-all`).
 use mathlib.Core.Path.{sym}
 use native.Mathlib.Omega.{arith}
 use borrow.Author.Needs.{needs}

@@ -1,4 +1,4 @@
--- Only a strictly greater sum replaces the one before.
+-- The test of the code is that of the promise, because both sums are long words: only a strictly greater sum replaces the one before.
 use mathlib.Core.Path.{_≡_}
 use mathlib.Core.Bool.{true, false}
 use lib.Signed.{ltZ}

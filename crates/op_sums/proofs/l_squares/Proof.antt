@@ -1,4 +1,5 @@
--- The plain sum of the squares so far, doubled at the end: there is room, so no limit is met.
+-- The invariant is the plain sum of the squares so far (`Sum`). It cannot saturate, because the `requires` bounds all squares together; it
+-- is doubled at the end.
 use Prim.Native.Nat.{ℕ, _-_, _*_, _^_, _≤_, _<_}
 use mathlib.Core.Path.{_≡_, refl, _∙_}
 use mathlib.Core.List.{List, map}
@@ -66,7 +67,7 @@ module _ (c : tie.After-wt Inv-loop μ-loop) where
       let f : SFits w16 ((xs at i) >> n) = shr-fits (2 ^ n) x-fits in
       rw (back x-fits, back f) (back (wide f tt))
 
-  -- its square is a term of the sum, and has room
+  -- its square is a term of the sum, and is within the bound
   term : ((xs at i) >> n) *ℤ ((xs at i) >> n) ≡ (wt n xs at i) *ℤ (wt n xs at i)
   term = let e = map-at (λ x. x >> n) xs i (pos 0) (pos 0) (omega arith) in rw e refl
 

@@ -1,4 +1,5 @@
--- The plain sum of the products so far, doubled at the end: there is room, so no limit is met.
+-- The invariant is the plain sum of the products so far (`Sum`). It cannot saturate, because `Room` bounds all products together; it is
+-- doubled at the end.
 use Prim.Native.Nat.{_-_, _≤_}
 use mathlib.Core.Path.{_≡_, refl, _∙_}
 use native.Mathlib.Omega.{arith}
@@ -45,7 +46,7 @@ cast-sum-2 c = search zfits
 mul-sum-3 : tie.Need-mul-sum-3 Inv-loop μ-loop
 mul-sum-3 c = search zfits
 
--- what a turn adds is the product of the two words that were read, which has room
+-- what an iteration adds is the product of the two words that were read, which is within the bound
 turn : (c : tie.After-sum2 Inv-loop μ-loop) → let t = c .before .before .before in let x = t .before .args .a .now at t .loop .i in
     let y = t .before .args .b .now at t .loop .i in
     (mem w32 (mem w32 (mem w16 x) *ℤ mem w32 (mem w16 y)) ≡ x *ℤ y) × (natAbs (x *ℤ y) ≤ t .loop .inv .1 .0 .most)

@@ -1,4 +1,4 @@
--- The larger of two, by the way the test goes.
+-- Each branch returns what the promise picks by the same test; the words in the test are the words passed.
 use Rattle.math_integers.specs.Ranges.{back}
 use Rattle.op_sums.proofs.larger.Statement.{statement}
 use Rattle.op_sums.proofs.larger.Tie as tie

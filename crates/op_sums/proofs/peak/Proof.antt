@@ -1,4 +1,4 @@
--- The largest size so far, one sample a turn.
+-- The invariant: max is the largest absolute value of the first k samples. One more is above it (`largest-new`) or not (`largest-old`).
 use Prim.Native.Nat.{_+_, _-_, _≤_, _<_}
 use mathlib.Core.Path.{_≡_, refl, sym, ap, _∙_}
 use mathlib.Core.List.{map}

@@ -1,3 +1,4 @@
+-- The array and MAC of the definition are the same 8 numbers, by computation; beyond the end both give 0 (`past-end`).
 use borrow.Author.Needs.{needs, sfits-of}
 use Rattle.math_integers.specs.Ranges.{back}
 use Rattle.standard.specs.Tables.{MAC}

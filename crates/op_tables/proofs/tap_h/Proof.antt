@@ -1,3 +1,4 @@
+-- The array and H of the definition are the same 11 numbers, by computation; beyond the end both give 0 (`past-end`).
 use borrow.Author.Needs.{needs, sfits-of}
 use Rattle.math_integers.specs.Ranges.{back}
 use Rattle.standard.specs.Tables.{H}

@@ -1,3 +1,5 @@
+-- The least word, the other negative words and the rest are three cases. In each the result is the clip of the size; −a is made only
+-- where a is not the least word, so it fits.
 use lib.IntN.{pos}
 use mir.Syntax.{w16}
 use Rattle.math_integers.specs.Halves.{zar, know, mem}

@@ -1,3 +1,4 @@
+-- Below the range, above it and within it are three cases. The cast is made within the range only, where the clip does nothing.
 use mir.Syntax.{w16}
 use Rattle.math_integers.specs.Halves.{zar, know}
 use Rattle.law_arithmetic.specs.Clip.{clip-is}

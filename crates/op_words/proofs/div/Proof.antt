@@ -1,3 +1,5 @@
+-- One case for each branch, by the law of the definition for that case. In the last branch 0 < num < denum, so the quotient is below
+-- 32768 and is a word.
 use Prim.Native.Nat.{_*_, _/_}
 use mathlib.Core.Path.{_≡_, sym, _∙_}
 use mathlib.Core.Bool.{true}

@@ -1,3 +1,4 @@
+-- The product of two words and 16384 fit in 32 bits together, and the shift is that of the definition; `clip_word` then gives its clip.
 use mathlib.Core.Path.{_∙_, ap}
 use mir.Syntax.{w16}
 use Rattle.math_integers.specs.Ranges.{zfits}

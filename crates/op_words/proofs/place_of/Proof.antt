@@ -1,3 +1,4 @@
+-- A word that is not negative is its own size, so the cast is exact; a negative word gives 0.
 use Rattle.math_integers.specs.Halves.{zar, know}
 use Rattle.op_words.proofs.place_of.Statement.{statement}
 use Rattle.op_words.proofs.place_of.Tie as tie

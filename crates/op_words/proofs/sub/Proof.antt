@@ -1,3 +1,4 @@
+-- The difference of two words fits in 32 bits, so it is exact there; `clip_word` then gives the clip of the definition.
 use mathlib.Core.Path.{_∙_, ap}
 use mir.Syntax.{w16}
 use Rattle.math_integers.specs.Ranges.{zfits}

@@ -1,3 +1,4 @@
+-- Up to 32767 the cast is exact; above it the clip of the count is 32767.
 use lib.IntN.{pos}
 use mir.Syntax.{w16}
 use Rattle.math_integers.specs.Halves.{zar, know}
