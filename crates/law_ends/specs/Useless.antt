@@ -42,7 +42,7 @@ not-complete (some lpc.silent) = Unit {0}
 not-complete (some (lpc.stopped n)) = Unit {0}
 not-complete (some lpc.complete) = ⊥
 
--- an ending that is one
+-- an ending that is there
 not-absent : Option lpc.Ending → Type 0
 not-absent none = ⊥
 not-absent (some e) = Unit {0}
@@ -60,7 +60,7 @@ says-found none = false
 says-found (some house.rule) = false
 says-found (some house.found) = true
 
--- in a row of rules none does
+-- in a list of marks "rule" none says found
 none-found : (n i : ℕ) → says-found (getD (replicate n (some house.rule)) i none) ≡ false
 unfolding says-found
 none-found zero i = refl
@@ -152,17 +152,17 @@ computed = record {
 -- ---- so no outcome that keeps the promise is one of these
 
 module _ (e : Encoder) (h : coder e ≡ home-coder) where
-  -- a home with something in the pre-emphasis cell
+  -- a home whose mp is positive
   pub emphasised-home : (n : ℕ) → ¬ (e .mp ≡ pos (suc n))
   unfolding coder home-coder
   emphasised-home n p = unlike (suc n) 0 (omega arith) (sym p ∙ ap (λ c. c .mp) h)
 
-  -- or in the offset filter
+  -- a home whose L_z2 is positive
   pub offset-home : (n : ℕ) → ¬ (e .«l_z2» ≡ pos (suc n))
   unfolding coder home-coder
   offset-home n p = unlike (suc n) 0 (omega arith) (sym p ∙ ap (λ c. c .L-z2) h)
 
--- a refusal that says an ending
+-- a refusal that gives an ending: it says silent
 pub refused-as-silent : (e : Encoder) (samples lent : List ℤ) (a : Encoded) (left : List ℤ) → Encodes e samples lent a left
     → (n : ℕ) → a .number ≡ suc n → ¬ (a .ending ≡ Ending-of.Silent)
 unfolding ending refused not-absent
@@ -175,7 +175,7 @@ module _ (e : Encoder) (h : coder e ≡ home-coder) (a : Encoded) (w : List ℤ)
   own : w ≡ first-frame
   own = p .codewords ∙ ap (λ c. answers.encode c pulses (zeros 76) .codewords) h ∙ computed .frame
 
-  -- one constant frame: silence leaves another
+  -- one constant frame: silence gives another frame than the pulses
   pub constant-frame : (b : Encoded) → ¬ Encodes e (zeros 160) (zeros 76) b w
   unfolding first-frame zero-frame
   constant-frame b q =
@@ -198,7 +198,7 @@ module _ (e : Encoder) (h : coder e ≡ home-coder) (a : Encoded) (w : List ℤ)
   unfolding first-frame zero-frame
   first-only z = unlike 3 0 (omega arith) (ap (λ c. c at 1) (sym (ap (drop 25) own) ∙ z))
 
-  -- sub-frame 1 coded again in the place of 2
+  -- sub-frame 1 coded again instead of sub-frame 2
   pub first-again : ¬ (drop 25 w at 1 ≡ drop 8 w at 1)
   unfolding first-frame
   first-again z = unlike 3 0 (omega arith) (sym (ap (λ c. drop 25 c at 1) own) ∙ (z ∙ ap (λ c. drop 8 c at 1) own))

@@ -25,7 +25,7 @@ use Rattle.frame_received.specs.Sub.{field-fit}
 use Rattle.frame_received.specs.Received.{sub-frame, sub-frames, ratio-words, received-is}
 use Rattle.law_limits.specs.Exact.{Exact, ExactBy, code-up, B-up, ratio-up, pulse-up}
 
--- of a sub-frame
+-- the left shifts of a sub-frame that is received: they lose nothing
 pub record SubReadShifts (f : Subframe) : Type 0 where
   -- 4.2.16: xMc << 1
   pub doubling : (k : ℕ) → k < 13 → Exact w16 (f .xMc at k) 1
@@ -34,7 +34,7 @@ pub record SubReadShifts (f : Subframe) : Type 0 where
   -- 4.2.16: 1 << (temp2 − 1); at exponent 6 it is a right shift
   pub rounding : let exp = amplitude (f .xmaxc) .exp in leZ exp (pos 5) ≡ true → ExactBy w16 (pos 1) (sub (sub (pos 6) exp) (pos 1))
 
--- of a frame
+-- the left shifts of a frame that is received: they lose nothing
 pub record ReadShifts (f : Frame) : Type 0 where
   -- 4.2.8: (LARc + MIC) << 10, and B << 1
   pub codes : (i : ℕ) → i < 8 → Exact w16 (add (f .LARc at i) (MIC at i)) 10

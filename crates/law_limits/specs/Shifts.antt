@@ -38,7 +38,7 @@ use Rattle.law_limits.specs.Words.{Carried, s-length, small-length, s-wo
 use Rattle.law_limits.specs.Sizes.{small-sizes}
 use Rattle.law_limits.specs.Exact.{Exact, ExactBy, sop-up, long-up, size-up, code-up, B-up, ratio-up, small-up, pulse-up}
 
--- of a frame
+-- the left shifts of a frame: they lose nothing, except for the one in `loses`
 pub record FrameShifts (c : Coder) (sop : List ℤ) : Type 0 where
   -- 4.2.1: (sop >> 3) << 2
   pub downscaling : (k : ℕ) → k < 160 → Exact w16 (sop at k >> 3) 2
@@ -67,7 +67,7 @@ pub record FrameShifts (c : Coder) (sop : List ℤ) : Type 0 where
   -- 4.2.9.2: temp << 1, whatever LARp is
   pub coefficients : (LARp : ℤ) → let temp = abs LARp in ltZ temp (pos 11059) ≡ true → Exact w16 temp 1
 
--- of a sub-frame that starts from dp and d
+-- the left shifts of a sub-frame that starts from dp and d: they lose nothing
 pub record SubShifts (dp d : List ℤ) : Type 0 where
   -- 4.2.11: dmax << 16
   pub dmax : Exact w32 (peak d) 16

@@ -44,7 +44,7 @@ squares n ys =
     let zs = map (λ y. y >> n) ys in
     zipWith L-mult zs zs
 
--- of a frame
+-- the sums (a) and (b), of a frame
 pub record FrameSums (c : Coder) (sop : List ℤ) : Type 0 where
   -- (a) the offset filter: after any number k of samples it has not saturated and has lost no bit
   pub offset : (k : ℕ) → let so = downscaled (take k sop) in run offset (kept c) so ≡ run plain-offset (kept c) so
@@ -54,7 +54,7 @@ pub record FrameSums (c : Coder) (sop : List ℤ) : Type 0 where
   pub autocorrelation : (k : ℕ) → k < 9
       → let small = small c sop in Inside 1342177280 (sums c sop at k) (pos 0) (zipWith L-mult (drop k small) small)
 
--- of a sub-frame that starts from dp and d
+-- the sums (c) to (f), of a sub-frame that starts from dp and d
 pub record SubSums (dp d : List ℤ) : Type 0 where
   -- (c) each lag sum
   pub lag : (lag : ℕ) → Lag lag → Inside 1342177280 (correlations d dp at (lag - 40)) (pos 0) (zipWith L-mult (wt d) (back lag dp))
@@ -72,7 +72,7 @@ pub record SubSums (dp d : List ℤ) : Type 0 where
 
 -- ---- (a) and (b)
 
--- those of a frame
+-- the sums (a) and (b) of a frame, from a sound state
 pub frame-sums : (c : Coder) (sop : List ℤ) → sound-coder c ≡ true → length sop ≡ 160 → every word sop ≡ true → FrameSums c sop
 unfolding sound-coder
 frame-sums c sop sound l w =
@@ -94,7 +94,7 @@ frame-sums c sop sound l w =
 
 -- ---- (c) to (f)
 
--- those of a sub-frame, whatever words its 120 dp and 40 d are
+-- the sums (c) to (f) of a sub-frame, for any words as its 120 dp and its 40 d
 pub sub-sums : (dp d : List ℤ) → every word dp ≡ true → length dp ≡ 120 → every word d ≡ true → length d ≡ 40 → SubSums dp d
 sub-sums dp d v n w l =
     record {

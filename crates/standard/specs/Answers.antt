@@ -17,6 +17,7 @@ unfoldable pub answer : {A : Type 0} → ℕ → A → (ℕ → A) → A
 answer zero done refused = done
 answer (suc n) done refused = refused (suc n)
 
+-- all that encode answers, with the codewords that it leaves in the buffer
 pub record Encoded : Type 0 where
   pub number : ℕ
   pub state : Coder
@@ -38,6 +39,7 @@ encode c samples codewords =
     })
     (λ n. record { number = n; state = c; ending = none; marks = replicate 4 none; codewords = codewords })
 
+-- all that decode answers, with the samples that it leaves in the buffer
 pub record Decoded : Type 0 where
   pub number : ℕ
   pub state : Decoder
@@ -64,6 +66,7 @@ decode-alaw m codewords octets =
     (record { number = 0; state = t .0; octets = alaw-octets (t .1) })
     (λ n. record { number = n; state = m; octets = octets })
 
+-- what pack answers, with the bytes that it leaves in the buffer
 pub record Packed : Type 0 where
   pub number : ℕ
   pub bytes : List ℕ
@@ -74,6 +77,7 @@ pack codewords bytes =
     (record { number = 0; bytes = packed codewords })
     (λ n. record { number = n; bytes = bytes })
 
+-- what unpack answers, with the codewords that it leaves in the buffer
 pub record Unpacked : Type 0 where
   pub number : ℕ
   pub codewords : List ℤ

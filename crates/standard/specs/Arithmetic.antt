@@ -25,6 +25,7 @@ modulo (negsuc n) m = m - suc (n % m)
 unfoldable pub keep : Width → ℤ → ℤ
 keep w z = toZ w (modulo z (2 ^ bits w))
 
+-- the low word
 abbrev pub low : ℤ → ℤ
 low = keep w16
 
@@ -51,33 +52,37 @@ unfoldable pub shr : Width → ℤ → ℤ → ℤ
 shr w z (pos n) = z >> n
 shr w z (negsuc n) = up w z (suc n)
 
+-- z is 0
 abbrev pub is-zero : ℤ → Bool
 is-zero z = eqb (natAbs z) 0
 
--- from least to most, both included
+-- z lies in least to most, both included
 abbrev pub within : ℤ → ℤ → ℤ → Bool
 within least most z = leZ least z && leZ z most
 
--- a sum and a difference at width w
+-- a sum and a difference at width w, which saturate
 unfoldable pub plus : Width → ℤ → ℤ → ℤ
 plus w a b = clip w (a +ℤ b)
 
 unfoldable pub minus : Width → ℤ → ℤ → ℤ
 minus w a b = clip w (a -ℤ b)
 
+-- of words
 abbrev pub add : ℤ → ℤ → ℤ
 add = plus w16
 
 abbrev pub sub : ℤ → ℤ → ℤ
 sub = minus w16
 
--- of two words only −32768 times −32768 needs the clip; it gives 32767
+-- the product divided by 32768, rounded down. Of two words only −32768 times −32768 needs the clip; it gives 32767
 unfoldable pub mult : ℤ → ℤ → ℤ
 mult a b = clip w16 ((a *ℤ b) >> 15)
 
+-- as mult, but 16384 is added to the product first
 unfoldable pub mult-r : ℤ → ℤ → ℤ
 mult-r a b = clip w16 ((a *ℤ b +ℤ pos 16384) >> 15)
 
+-- the absolute value; of −32768 it is 32767
 unfoldable pub abs : ℤ → ℤ
 abs a = clip w16 (pos (natAbs a))
 
@@ -93,6 +98,7 @@ div (negsuc n) d = pos 0
 unfoldable pub L-mult : ℤ → ℤ → ℤ
 L-mult a b = clip w32 (a *ℤ b +ℤ a *ℤ b)
 
+-- the sum and the difference of long words
 abbrev pub L-add : ℤ → ℤ → ℤ
 L-add = plus w32
 

@@ -14,7 +14,8 @@ use Rattle.standard.specs.ShortTerm.{ratios, coefficients, analysed}
 use Rattle.standard.specs.LongTerm.{scal, lag-search, Nc, L-power, bc, dpp, residual}
 use Rattle.standard.specs.Rpe.{weighted, Mc, grid, xmaxc, amplitude, xMc, reconstructed, updated}
 
--- what the coder keeps in memory for the next frame; LARpp is LARpp(j − 1) there
+-- what the coder keeps in memory for the next frame: z1 and L_z2 of 4.2.2, mp of 4.2.3, LARpp(j − 1)[1..8] of 4.2.8, u[0..7] of 4.2.10 and
+-- dp[−120..−1] of 4.2.18
 pub record Coder : Type 0 where
   pub z1 : ℤ
   pub L-z2 : ℤ

@@ -1,4 +1,4 @@
--- 4.3: the decoder.
+-- 4.3: the decoder, its procedures in the order of the standard.
 use mathlib.Core.Bool.{cond}
 use mathlib.Core.List.{List, [], _∷_, map, zip, foldr, flatten}
 use lib.IntN.{ℤ, pos, natAbs}
@@ -10,7 +10,8 @@ use Rattle.standard.specs.ShortTerm.{ratios, coefficients}
 use Rattle.standard.specs.LongTerm.{is-lag}
 use Rattle.standard.specs.Rpe.{reconstructed, updated}
 
--- what the decoder keeps in memory for the next frame
+-- what the decoder keeps in memory for the next frame: drp[−120..−1] and the lag nrp of 4.3.2, LARpp(j − 1)[1..8] of 4.3.3, v[0..7] of
+-- 4.3.4 and msr of 4.3.5
 pub record Decoder : Type 0 where
   pub drp : List ℤ
   pub nrp : ℤ

@@ -25,9 +25,11 @@ pub record Frame : Type 0 where
 
 -- ---- as codewords
 
+-- the 17 codewords of a sub-frame
 unfoldable pub sub-words : Subframe → List ℤ
 sub-words s = s .Nc ∷ s .bc ∷ s .Mc ∷ s .xmaxc ∷ s .xMc
 
+-- the 76 codewords of a frame
 unfoldable pub words : Frame → List ℤ
 words f = f .LARc ++ flatten (map sub-words (f .subframes))
 
@@ -37,9 +39,11 @@ places = 8 ∷ 25 ∷ 42 ∷ 59 ∷ []
 
 -- ---- the fields and their valid bits
 
+-- the bits of each field of a sub-frame, in order
 unfoldable pub sub-widths : List ℕ
 sub-widths = 7 ∷ 2 ∷ 2 ∷ 6 ∷ replicate 13 3
 
+-- and of a frame
 unfoldable pub widths : List ℕ
 widths = LARc-widths ++ flatten (replicate 4 sub-widths)
 
@@ -52,6 +56,7 @@ valid = zipWith (λ width c. pos (modulo c (2 ^ width))) widths
 unfoldable pub sub-received : List ℤ → Subframe
 sub-received c = record { Nc = c at 0; bc = c at 1; Mc = c at 2; xmaxc = c at 3; xMc = drop 4 c }
 
+-- the frame that the decoder reads from 76 codewords
 unfoldable pub received : List ℤ → Frame
 received c =
     let v = valid c in

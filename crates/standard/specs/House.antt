@@ -34,10 +34,12 @@ home-decoder = record { drp = replicate 120 (pos 0); nrp = pos 40; LARpp = repli
 
 -- ---- 'Soundness'
 
+-- z1 lies in −16384 to 16380, and L_z2 − 32768 · z1 lies in −536740337 to 536871409
 unfoldable pub sound-coder : Coder → Bool
 sound-coder c =
     within (neg 16384) (pos 16380) (c .z1) && within (neg 536740337) (pos 536871409) (c .L-z2 -ℤ pos 32768 *ℤ c .z1)
 
+-- the remembered lag lies in 40 to 120
 unfoldable pub sound-decoder : Decoder → Bool
 sound-decoder m = is-lag (m .nrp)
 
@@ -101,6 +103,7 @@ fields-row codewords = (not (fits codewords), 5)
 abbrev pub spare-row : List ℕ → Bool × ℕ
 spare-row bytes = (not (every (eqb 0) (spare bytes)), 6)
 
+-- the number that each call gives
 unfoldable pub encode-refusal : Coder → List ℤ → List ℤ → ℕ
 encode-refusal c samples codewords = refusal (samples-row samples ∷ codewords-row codewords ∷ state-row (sound-coder c) ∷ [])
 

@@ -32,6 +32,7 @@ digits (suc k) n = digits k (n / 10) ++ ((48 + n % 10) ∷ [])
 unfoldable pub decimal : ℕ → List ℕ
 decimal n = digits (first (λ k. ltb n (10 ^ k)) n 1) n
 
+-- a codeword
 unfoldable pub word : ℤ → List ℕ
 word c = decimal (natAbs c)
 
@@ -52,12 +53,15 @@ line [] = 10 ∷ []
 line (f ∷ []) = f ++ (10 ∷ [])
 line (f ∷ g ∷ fs) = f ++ 9 ∷ line (g ∷ fs)
 
+-- the name and the format number
 unfoldable pub header : List ℕ
 header = line (text "RPELTP" ∷ decimal 1 ∷ [])
 
+-- the frame, the ending, the eight LARc
 unfoldable pub F-line : ℕ → Coded → List ℕ
 F-line frame c = line (text "F" ∷ decimal frame ∷ ending-text (c .ending) ∷ map word (c .LARc))
 
+-- the frame, the sub-frame, the mark, the 17 codewords of the sub-frame
 unfoldable pub S-line : ℕ → ℕ → Subcoded → List ℕ
 S-line frame n s = line (text "S" ∷ decimal frame ∷ decimal n ∷ mark-text (mark s) ∷ map word (sub-words (s .codes)))
 
@@ -66,6 +70,7 @@ unfoldable pub numbered : {A : Type 0} → (ℕ → A → List ℕ) → ℕ → 
 numbered f n [] = []
 numbered f n (x ∷ xs) = f n x ++ numbered f (suc n) xs
 
+-- the five lines of a frame
 unfoldable pub frame-lines : ℕ → Coded → List ℕ
 frame-lines frame c = F-line frame c ++ numbered (S-line frame) 1 (c .subframes)
 
@@ -90,5 +95,6 @@ E-line bytes =
 unfoldable pub frames : List ℕ → List (List ℤ)
 frames bytes = map file-words (cut (replicate (min (length bytes / frame-bytes) most-frames) frame-bytes) bytes)
 
+-- the whole text, from home: the header, the lines of each frame, the E line
 unfoldable pub listing : List ℕ → List ℕ
 listing bytes = header ++ (numbered frame-lines 1 (run coded home-coder (frames bytes) .1) ++ E-line (length bytes))

@@ -23,10 +23,12 @@ scalauto s =
 abbrev pub if-scaled : ℤ → (ℤ → ℤ) → List ℤ → List ℤ
 if-scaled scale f s = cond (ltZ (pos 0) scale) (map f s) s
 
+-- the scaling: each sample by mult_r with 16384 >> (scale − 1)
 unfoldable pub scaled : ℤ → List ℤ → List ℤ
 scaled scale = if-scaled scale (λ x. mult-r x (shr w16 (pos 16384) (sub scale (pos 1))))
 
--- the shift keeps the low 16 bits: at scale 4 a sample of 32760 to 32767 comes back as −32768
+-- the rescaling: each sample shifted left by the scale. The shift keeps the low 16 bits: at scale 4 a sample that was from 32760 to 32767
+-- before the scaling becomes −32768
 unfoldable pub rescaled : ℤ → List ℤ → List ℤ
 rescaled scale = if-scaled scale (λ x. shl w16 x scale)
 
@@ -58,7 +60,7 @@ reflection P0 P1 =
     cond (ltZ (pos 0) P1) (sub (pos 0) r) r
 
 -- the coefficients that the next n steps measure, from P[0], from P[1], P[2] .. and from K[8], K[7] ..; it stops where P[0] < abs(P[1]).
--- Each step leaves one P less, and a K for each but the first: no further step reads more
+-- Each step leaves one P less, and one K for each P except the first: the later steps read no more than these
 unfoldable pub measured : ℕ → ℤ → List ℤ → List ℤ → List ℤ
 measured zero P0 P K = []
 measured (suc n) P0 [] K = []
@@ -75,6 +77,7 @@ schur L-acf =
     let acf = ACF L-acf in
     cond (is-zero (L-acf at 0)) [] (measured 8 (acf at 0) (tail acf) (take 7 (tail acf)))
 
+-- the ending, by the first sum and by how many coefficients were measured
 unfoldable pub ending : List ℤ → Ending
 ending L-acf =
     let n = length (schur L-acf) in
@@ -94,6 +97,7 @@ with-sign f x =
     let temp = f (abs x) in
     cond (ltZ x (pos 0)) (sub (pos 0) temp) temp
 
+-- the three branches, of an absolute value
 unfoldable pub area-ratio : ℤ → ℤ
 area-ratio temp =
     cond (ltZ temp (pos 22118)) (temp >> 1) (cond (ltZ temp (pos 31130)) (sub temp (pos 11059)) (sub temp (pos 26112) << 2))

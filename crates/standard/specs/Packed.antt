@@ -31,6 +31,7 @@ packed words = map value (cut (replicate 33 8) (frame-bits words ++ replicate 4 
 unfoldable pub byte-bits : List ℕ → List ℕ
 byte-bits bytes = flatten (map (bits 8) bytes)
 
+-- the 76 codewords that the bits of the bytes have, field by field
 unfoldable pub unpacked : List ℕ → List ℤ
 unpacked bytes = map (λ b. pos (value b)) (cut widths (byte-bits bytes))
 

@@ -65,6 +65,7 @@ mantissa exp mant =
     let n = first (λ n. leb 9 (suc mant * 2 ^ n)) 4 0 in
     record { exp = pos exp -ℤ pos n; mant = suc mant * 2 ^ n - 9 }
 
+-- exponent and mantissa of a code xmaxc
 unfoldable pub amplitude : ℤ → Amplitude
 amplitude code =
     let c = natAbs code in
@@ -104,6 +105,6 @@ reconstructed lag f dp =
     let pulses = xMp (amplitude (f .xmaxc)) (f .xMc) in
     zipWith add (ep (natAbs (f .Mc)) pulses) (dpp lag (natAbs (f .bc)) dp)
 
--- dp after 40 more
+-- dp after 40 new samples: the oldest 40 are dropped
 unfoldable pub updated : List ℤ → List ℤ → List ℤ
 updated dp new = drop 40 dp ++ new

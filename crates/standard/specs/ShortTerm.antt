@@ -26,7 +26,8 @@ ratios larc = tab (λ i. LARpp i (larc at i)) 0 8
 
 -- ---- 4.2.9.1 Interpolation of the LARpp[1..8] to get the LARp[1..8]
 
--- for samples 0 to 12, 13 to 26, 27 to 39, 40 to 159: how many, and LARp[i] of LARpp(j − 1)[i] and LARpp(j)[i]
+-- for samples 0 to 12, 13 to 26, 27 to 39 and 40 to 159: how many samples they are, and LARp[i] of LARpp(j − 1)[i], which is `old`, and of
+-- LARpp(j)[i], which is `new`
 unfoldable pub stretches : List (ℕ × (ℤ → ℤ → ℤ))
 stretches =
     (13, λ old new. add (add (old >> 2) (new >> 2)) (old >> 1))
@@ -37,6 +38,7 @@ stretches =
 
 -- ---- 4.2.9.2 Computation of the rp[1..8] from the interpolated LARp[1..8]
 
+-- the three branches, of an absolute value
 unfoldable pub from-ratio : ℤ → ℤ
 from-ratio temp =
     cond (ltZ temp (pos 11059)) (temp << 1) (cond (ltZ temp (pos 20070)) (add temp (pos 11059)) (add (temp >> 2) (pos 26112)))
@@ -55,7 +57,7 @@ coefficients old new = flatten (map (stretch old new) stretches)
 
 -- ---- 4.2.10 Short term analysis filtering
 
--- section i: it is handed di and sav, and its own rp[i] and u[i − 1]; it hands on di and sav, and has a new u[i − 1]
+-- section i takes di and sav, and its own rp[i] and u[i − 1]; it gives the next di and sav, and the new u[i − 1]
 unfoldable pub section : ℤ × ℤ → ℤ × ℤ → (ℤ × ℤ) × ℤ
 section (di, sav) (rpi, u) = ((add di (mult-r rpi u), add u (mult-r rpi di)), sav)
 

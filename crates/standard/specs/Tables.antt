@@ -5,6 +5,7 @@ use mathlib.Core.List.{List, [], _∷_}
 use lib.IntN.{ℤ, pos, negℤ}
 use lib.ListN.{getD}
 
+-- −n
 abbrev pub neg : ℕ → ℤ
 neg n = negℤ (pos n)
 
