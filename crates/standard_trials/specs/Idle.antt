@@ -1,4 +1,4 @@
--- An idle A-law line (02, W-204): code D5 over and over, which is sample 8 and not 0; and what the zero frame is heard as.
+-- An idle A-law line (request W-204): code D5 over and over, which is sample 8 and not 0; and what the zero frame is heard as.
 use mathlib.Core.Path.{_≡_, refl}
 use mathlib.Core.Option.{some}
 use mathlib.Core.List.{List, _∷_, [], _++_, map, flatten}
