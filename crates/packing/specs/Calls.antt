@@ -1,4 +1,5 @@
--- 01, 'Refusal numbers': of what they do not refuse, pack and unpack each undo the other, in the definitions and in any outcome that the promises allow.
+-- House rules, 'Packing' and 'Refusals': of what they do not refuse, pack and unpack each undo the other, in the definitions
+-- and in any outcome that the promises allow.
 use mathlib.Core.Path.{_≡_, sym, ap, _∙_}
 use mathlib.Core.Bool.{true}
 use mathlib.Core.List.{List}
@@ -24,7 +25,8 @@ unpack-pack c w b e g =
 
 -- bytes that were unpacked are packed as they were
 pub pack-unpack : (b b′ : List ℕ) (w : List ℤ)
-    → unpack-refusal b w ≡ 0 → every (λ x. ltb x 256) b ≡ true → length b′ ≡ 33 → pack (unpack b w .codewords) b′ ≡ record { number = 0; bytes = b }
+    → unpack-refusal b w ≡ 0 → every (λ x. ltb x 256) b ≡ true → length b′ ≡ 33
+    → pack (unpack b w .codewords) b′ ≡ record { number = 0; bytes = b }
 pack-unpack b b′ w e f g =
     let a = unpack-exactly b w .allowed e in
     let r = pack-exactly (unpacked b) b′ .allows (unpacked-length b) g (unpacked-fits b (a .1)) in
@@ -40,14 +42,14 @@ packs-allowed c b p = sym (pack-number c b) ∙ sym (p .number)
 unpacks-allowed : (b : List ℕ) (w : List ℤ) {left : List ℤ} → Unpacks b w 0 left → unpack-refusal b w ≡ 0
 unpacks-allowed b w p = sym (unpack-number b w) ∙ sym (p .number)
 
--- what pack left, with the answer 0, any unpack into 76 codewords gives back
+-- where pack answered 0, any unpack of the bytes it left, into 76 codewords, answers 0 and gives back the codewords packed
 pub unpack-undoes : (c w : List ℤ) (b left : List ℕ) → Packs c b 0 left → length w ≡ 76
     → (n : ℕ) (words : List ℤ) → Unpacks left w n words → (n ≡ 0) × (words ≡ c)
 unpack-undoes c w b left p g n words q =
     let e = ap (λ (l : List ℕ). unpack l w) (p .bytes) ∙ unpack-pack c w b (packs-allowed c b p) g in
     (rw e at (q .number), rw e at (q .codewords))
 
--- what unpack left, with the answer 0, any pack into 33 bytes gives back
+-- where unpack answered 0, any pack of the codewords it left, into 33 bytes, answers 0 and gives back the bytes unpacked
 pub pack-undoes : (b b′ : List ℕ) (w left : List ℤ) → Unpacks b w 0 left → every (λ x. ltb x 256) b ≡ true → length b′ ≡ 33
     → (n : ℕ) (bytes : List ℕ) → Packs left b′ n bytes → (n ≡ 0) × (bytes ≡ b)
 pack-undoes b b′ w left p f g n bytes q =

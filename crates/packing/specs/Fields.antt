@@ -70,7 +70,7 @@ module _ {X : Type 0} (k : Code X) where
       let t = and-eq-true-iff (are-bits p) (every are-bits ps) .0 e in
       rw (k .read-fit p (t .0), read-fits ps (t .1))
 
-  -- there are as many bits as the widths come to
+  -- there are as many bits as the sum of the widths
   pub joined-length : (ws : List ℕ) (xs : List X) → length xs ≡ length ws → length (joined ws xs) ≡ sum ws
   joined-length ws xs h = rw (flatten-length, written-lengths ws xs h)
 
@@ -83,7 +83,8 @@ module _ {X : Type 0} (k : Code X) where
   parted-count ws b = rw (length-map, cut-count ws b)
 
   -- fields that fit are read back as they were written, whatever follows them
-  pub parted-joined : (ws : List ℕ) (xs : List X) (q : List ℕ) → length xs ≡ length ws → all-fit ws xs ≡ true → parted ws (joined ws xs ++ q) ≡ xs
+  pub parted-joined : (ws : List ℕ) (xs : List X) (q : List ℕ) → length xs ≡ length ws → all-fit ws xs ≡ true
+      → parted ws (joined ws xs ++ q) ≡ xs
   parted-joined ws xs q h e =
       let c = rw (written-lengths ws xs h) at (cut-joined (zipWith (k .write) ws xs) q) in
       rw (c, written-read ws xs h e)

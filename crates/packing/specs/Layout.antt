@@ -73,8 +73,10 @@ module _ {X Y : Type 0} (k : Code X) (m : Code Y) (ws vs front back : List ℕ) 
       taken-fit = parted-fit k ws (rest ys) (omega (arith, rest-length)) rest-bits
 
       -- cells that fit, with the front and the back in their places, are laid out again as they were
-      pub laid-taken : all-fit m vs ys ≡ true → take (length front) (joined m vs ys) ≡ front → drop (sum ws) (rest ys) ≡ back → laid (taken ys) ≡ ys
+      pub laid-taken : all-fit m vs ys ≡ true → take (length front) (joined m vs ys) ≡ front → drop (sum ws) (rest ys) ≡ back
+          → laid (taken ys) ≡ ys
       laid-taken e u v =
-          let r : joined k ws (taken ys) ++ back ≡ rest ys = rw v at (joined-parted k ws (rest ys) (omega (arith, rest-length)) rest-bits) in
+          let j = joined-parted k ws (rest ys) (omega (arith, rest-length)) rest-bits in
+          let r : joined k ws (taken ys) ++ back ≡ rest ys = rw v at j in
           let t : front ++ rest ys ≡ joined m vs ys = rw u at (take-append-drop (length front) (joined m vs ys)) in
           rw (r, t) (parted-whole m vs ys h e)

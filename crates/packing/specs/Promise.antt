@@ -1,4 +1,4 @@
--- What pack and unpack promise: the number and what is left in the lent buffer are those of the definition.
+-- What pack and unpack promise: the number and what is left in the buffer that was passed are those of the definition.
 use Prim.Native.Nat.{ℕ, suc}
 use mathlib.Core.Path.{_≡_, sym, _∙_}
 use mathlib.Core.List.{List}
@@ -7,12 +7,12 @@ use Rattle.standard.specs.House.{pack-refusal, unpack-refusal}
 use Rattle.standard.specs.Answers as answers
 use Rattle.law_refusals.specs.Calls.{pack-refused, unpack-refused}
 
--- of the codewords and the bytes lent, the number answered, and the bytes left
+-- pack: the codewords, the bytes that were passed as a buffer, the number answered, and the bytes left in the buffer
 pub record Packs (codewords : List ℤ) (lent : List ℕ) (n : ℕ) (left : List ℕ) : Type 0 where
   pub number : n ≡ answers.pack codewords lent .number
   pub bytes : left ≡ answers.pack codewords lent .bytes
 
--- of the bytes and the codewords lent, the number answered, and the codewords left
+-- unpack: the bytes, the codewords that were passed as a buffer, the number answered, and the codewords left in the buffer
 pub record Unpacks (bytes : List ℕ) (lent : List ℤ) (n : ℕ) (left : List ℤ) : Type 0 where
   pub number : n ≡ answers.unpack bytes lent .number
   pub codewords : left ≡ answers.unpack bytes lent .codewords
@@ -26,7 +26,7 @@ pub one-unpacking : (bytes : List ℕ) (lent : List ℤ) (m n : ℕ) (l r : List
     → Unpacks bytes lent m l → Unpacks bytes lent n r → (m ≡ n) × (l ≡ r)
 one-unpacking bytes lent m n l r p q = (p .number ∙ sym (q .number), p .codewords ∙ sym (q .codewords))
 
--- a refusal answers its number, and leaves what was lent as it was
+-- a refusal answers its number, and leaves the buffer as it was
 pub packing-refused : (codewords : List ℤ) (lent : List ℕ) (n m : ℕ) (left : List ℕ)
     → pack-refusal codewords lent ≡ suc n → Packs codewords lent m left → (m ≡ suc n) × (left ≡ lent)
 packing-refused codewords lent n m left h p =

@@ -33,7 +33,7 @@ lengths-right c b e =
     let s = refusal-none (not-of 33 b) 3 _ (r .1) in
     (sized-length 76 c (not-false _ (r .0)), sized-length 33 b (not-false _ (s .0)))
 
--- and where they do not, no other row is looked at
+-- and where they do not, the rows after them change nothing
 refusal-first : (rows more : List (Bool × ℕ)) (n : ℕ) → refusal rows ≡ suc n → refusal (rows ++ more) ≡ suc n
 unfolding refusal
 refusal-first [] more n e = absurd (omega arith)
@@ -102,14 +102,15 @@ module _ (b : List ℕ) (h : length b ≡ 33) where
       let x = getD b 32 0 in
       let d : drop 32 b ≡ x ∷ [] = rw (drop-cons b 32 0 (omega arith), drop-of-length-le b {i = 33} (omega arith)) in
       let e : drop 256 (flatten (map (bits 8) b)) ≡ bits 8 x = rw (bits-from 32 b (omega arith), d, append-nil) in
-      rw (← drop-drop 4 256 (flatten (map (bits 8) b)), e, bits-split 4 4 x, drop-at (bits 4 (x % 16)) (bits 4 (x / 16)) 4 (bits-length 4 (x % 16)))
+      let high = drop-at (bits 4 (x % 16)) (bits 4 (x / 16)) 4 (bits-length 4 (x % 16)) in
+      rw (← drop-drop 4 256 (flatten (map (bits 8) b)), e, bits-split 4 4 x, high)
 
-  -- so there is none where that is 0
+  -- so all spare bits are 0 where that is 0
   pub spare-none : getD b 32 0 / 16 ≡ 0 → every (eqb 0) (spare b) ≡ true
   unfolding every
   spare-none e = rw (spare-half, e, bits-zero 4)
 
-  -- and one where it is not
+  -- and not all are 0 where it is not
   pub spare-some : getD b 32 0 < 256 → ¬ (getD b 32 0 / 16 ≡ 0) → every (eqb 0) (spare b) ≡ false
   unfolding value
   spare-some l n = ⊎-elim (λ e. absurd (n (none e))) (λ e. e) (either (every (eqb 0) (spare b)))

@@ -1,4 +1,5 @@
--- 01, 'Numbers handed over': a frame that fits its fields is packed and unpacked without loss, and so are 33 bytes with four spare zeros.
+-- House rules, 'Packing': a frame that fits its fields is packed and unpacked without loss, and so are 33 bytes with four
+-- spare zeros.
 use mathlib.Core.Path.{_≡_, refl, sym, ap, _∙_}
 use mathlib.Core.Bool.{true, false≢true}
 use mathlib.Core.List.{List, [], flatten}
@@ -119,18 +120,23 @@ module _ (c : List ℤ) (h : length c ≡ 76) where
   -- each byte is below 256
   pub packed-bytes : every (λ x. ltb x 256) (packed c) ≡ true
   unfolding every
-  packed-bytes = rw (← bytes-fit (packed c) (packed-length c), packed-is c) (laid-fit low-codeword bytes widths eights [] zeros room refl refl c fields)
+  packed-bytes =
+      rw (← bytes-fit (packed c) (packed-length c), packed-is c)
+      (laid-fit low-codeword bytes widths eights [] zeros room refl refl c fields)
 
   -- the spare bits are 0
   pub packed-spare : every (eqb 0) (spare (packed c)) ≡ true
   unfolding every
-  packed-spare = rw (spare-is (packed c) (packed-length c), packed-is c, laid-back low-codeword bytes widths eights [] zeros room refl refl c fields)
+  packed-spare =
+      let z = laid-back low-codeword bytes widths eights [] zeros room refl refl c fields in
+      rw (spare-is (packed c) (packed-length c), packed-is c, z)
 
   -- codewords that fit are unpacked as they were
   pub unpack-packed : fits c ≡ true → unpacked (packed c) ≡ c
   unfolding every fits
   unpack-packed e =
-      rw (unpacked-is (packed c) (packed-length c), packed-is c) (taken-laid low-codeword bytes widths eights [] zeros room refl refl c fields e)
+      rw (unpacked-is (packed c) (packed-length c), packed-is c)
+      (taken-laid low-codeword bytes widths eights [] zeros room refl refl c fields e)
 
 -- ---- unpacking
 

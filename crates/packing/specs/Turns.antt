@@ -1,4 +1,4 @@
--- pack's loop over a frame, and unpack's: what a turn may go by, and what the loop comes to.
+-- pack's loop over a frame, and unpack's: what a turn needs and does, and that the loop gives the definition's result.
 use mathlib.Core.Path.{_≡_, refl, sym, _∙_}
 use mathlib.Core.Bool.{true}
 use mathlib.Core.List.{List, [], append-nil, zipWith}
@@ -28,7 +28,7 @@ Packing c = Moving natAbs (λ n. n) zeros eights widths c
 abbrev pub Unpacking : List ℕ → ℕ → ℕ → ℕ → ℕ → List ℤ → Type 0
 Unpacking b = Moving (λ n. n) pos [] widths eights b
 
--- what the loops come to
+-- what the loops give in the end is the packed frame, and the unpacked one
 packing-whole : (c : List ℤ) → coming natAbs (λ n. n) zeros eights widths c 0 0 ≡ packed c
 unfolding packed frame-bits bits
 packing-whole c = refl
@@ -64,12 +64,14 @@ module _ {c : List ℤ} {i k h n : ℕ} {out : List ℕ} (m : Packing c i k h n 
   pack-room = omega (arith, pack-count)
 
   -- a codeword goes above the bits that wait
-  pub pack-in : {w y r : ℕ} → length c ≡ 76 → fits c ≡ true → i < 76 → w ≡ getD widths i 0 → y ≡ natAbs (getD c i (pos 0)) → r ≡ n + 2 ^ h * y
+  pub pack-in : {w y r : ℕ} → length c ≡ 76 → fits c ≡ true → i < 76
+      → w ≡ getD widths i 0 → y ≡ natAbs (getD c i (pos 0)) → r ≡ n + 2 ^ h * y
       → Packing c (i + 1) k (h + w) r out
   pack-in {w} {y} l f p e g t =
       let q = field-count in
       let z = word-below c i l f p in
-      moving-in natAbs (λ n. n) zeros eights widths c m (pos 0) (omega arith) (omega arith) e g (rw e (omega (arith, abs-is (getD c i (pos 0))))) t
+      let s : y < 2 ^ w = rw (g, e) (omega (arith, abs-is (getD c i (pos 0)))) in
+      moving-in natAbs (λ n. n) zeros eights widths c m (pos 0) (omega arith) (omega arith) e g s t
 
   -- eight of them are a byte
   pub pack-out : length out ≡ 33 → 8 ≤ h → Packing c i (k + 1) (h - 8) (n / 256) (set out k (n % 256))

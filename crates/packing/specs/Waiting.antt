@@ -1,4 +1,5 @@
--- Fields moved into cells of other widths one after the other, the bits between them waiting in a number, the lowest first: the loop of pack, and of unpack.
+-- Fields moved into cells of other widths, one after the other. The bits between them wait in a number, the lowest first.
+-- This is the loop of pack, and that of unpack.
 use mathlib.Core.Path.{_≡_, refl, ap}
 use mathlib.Core.List.{List, [], _∷_, _++_, append-assoc, append-nil, flatten, map, zipWith}
 use Prim.Native.Nat.{ℕ, suc, _+_, _-_, _*_, _/_, _%_, _^_, _≤_, _<_}
@@ -12,7 +13,7 @@ use Rattle.math_lists.specs.Cut.{sum, cut}
 use Rattle.standard.specs.Packed.{bits, value}
 use Rattle.packing.specs.Bits.{bits-length, value-bits, join-below, bits-join, bits-split, bits-zero}
 
--- x is read as the number num x, and n is written as the thing of n; the bits of the back follow the fields
+-- a field x is read as the number `num x`; a number n is written as the cell `of n`; the bits `back` follow the fields
 module _ {X Y : Type 0} (num : X → ℕ) (of : ℕ → Y) (back : List ℕ) where
   -- the cells still to come, of the widths vs, where h bits wait in n and the fields xs, of the widths ws, are still to be read
   abbrev pub coming : List ℕ → List ℕ → List X → ℕ → ℕ → List Y
@@ -61,7 +62,8 @@ module _ {X Y : Type 0} (num : X → ℕ) (of : ℕ → Y) (back : List ℕ) whe
 
     module _ {i k h n : ℕ} {out : List Y} (m : Moving i k h n out) where
       -- a field is read
-      pub moving-in : (d : X) {w y r : ℕ} → i < length ws → i < length xs → w ≡ getD ws i 0 → y ≡ num (getD xs i d) → y < 2 ^ w → r ≡ n + 2 ^ h * y
+      pub moving-in : (d : X) {w y r : ℕ} → i < length ws → i < length xs
+          → w ≡ getD ws i 0 → y ≡ num (getD xs i d) → y < 2 ^ w → r ≡ n + 2 ^ h * y
           → Moving (i + 1) k (h + w) r out
       moving-in d {w} {y} p q e f l g =
           let a : drop i ws ≡ w ∷ drop (i + 1) ws = rw (e, add-one) (drop-cons ws i 0 p) in
@@ -79,14 +81,14 @@ module _ {X Y : Type 0} (num : X → ℕ) (of : ℕ → Y) (back : List ℕ) whe
       moving-out {v} {u} {y} p q e l g f =
           let a : drop k vs ≡ v ∷ drop (suc k) vs = rw e (drop-cons vs k 0 p) in
           let s : h - v + v ≡ h = omega arith in
+          let o = coming-out (drop (suc k) vs) (drop i ws) (drop i xs) h n v l in
           record {
-            written =
-                rw (add-one, take-suc-set out k y q, append-snoc, f, g, ← coming-out (drop (suc k) vs) (drop i ws) (drop i xs) h n v l, ← a) (m .written);
+            written = rw (add-one, take-suc-set out k y q, append-snoc, f, g, ← o, ← a) (m .written);
             count = rw add-one (omega (arith, ap sum a, m .count));
             held = rw g (shr-lt (h - v) v (rw s (m .held)));
           }
 
-      -- after the loop: where all cells are written, they are what was asked
+      -- after the loop: where all cells are written, they are the whole
       pub moving-end : length vs ≤ k → length out ≤ k → out ≡ coming vs ws xs 0 0
       unfolding cut
       moving-end p q = rw (drop-of-length-le vs p, take-all k out q, append-nil) at (m .written)

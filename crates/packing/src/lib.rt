@@ -1,5 +1,5 @@
-// 01, 'Numbers handed over': the packed frame, 76 codewords in 33 bytes, b1 in the lowest bit of the first. Each call answers a
-// refusal number, and one other than 0 leaves the lent buffer as it was.
+// House rules, 'Packing': the packed frame, 76 codewords in 33 bytes, b1 in the lowest bit of the first byte. Each call
+// answers a refusal number ('Refusals'). A number other than 0 leaves the buffer that was passed as it was.
 ghost use mathlib.Core.Path.{_≡_};
 ghost use mathlib.Core.Bool.{true, not};
 ghost use mathlib.Core.List.{[], _∷_};
@@ -18,7 +18,7 @@ fn power(n: u16) -> u32
     1u32 << n
 }
 
-// A number with another above its low n bits.
+// The sum of low and of high moved up by n bits. Where low has n bits, high is in the bits above it.
 fn above(low: u32, n: u16, high: u32) -> u32
     requires { ⌜ (low < 32768) × (n ≤ 14) × (high < 256) ⌝ }
     ensures { λ r. ⌜ r ≡ low + 2 ^ n * high ⌝ }
@@ -26,7 +26,8 @@ fn above(low: u32, n: u16, high: u32) -> u32
     low + power(n) * high
 }
 
-// Each codeword goes above the bits that wait, of which the lowest eight become a byte. The last four leave the spare bits 0.
+// Each codeword is put above the bits that wait. Where eight or more bits wait, the lowest eight become a byte. At the
+// end four bits wait: they are the last byte, and its spare bits are 0.
 fn fill_bytes(codewords: &[i16], bytes: &mut [u8])
     requires { ⌜ (length (now codewords) ≡ 76) × (length (now bytes) ≡ 33) × (fits (now codewords) ≡ true) ⌝ }
     ensures { λ _. ⌜ now (bytes .exit) ≡ packed (now (codewords .entry)) ⌝ }
@@ -48,7 +49,8 @@ fn fill_bytes(codewords: &[i16], bytes: &mut [u8])
     bytes[32] = waiting as u8;
 }
 
-// Where the bits that wait are too few, the next byte goes above them; the lowest become the codeword.
+// Where the bits that wait are too few for the codeword, the next byte is put above them. The lowest bits become the
+// codeword.
 fn fill_codewords(bytes: &[u8], codewords: &mut [i16])
     requires { ⌜ (length (now bytes) ≡ 33) × (length (now codewords) ≡ 76) ⌝ }
     ensures { λ _. ⌜ now (codewords .exit) ≡ unpacked (now (bytes .entry)) ⌝ }
@@ -70,7 +72,7 @@ fn fill_codewords(bytes: &[u8], codewords: &mut [i16])
     }
 }
 
-// What both calls refuse first: 2, other than 76 codewords; 4, other than 33 bytes.
+// What both calls test first. Refused: 2, not 76 codewords; 4, not 33 bytes.
 fn length_refusal(codewords: usize, bytes: usize) -> u8
     ensures { λ r. ⌜ r ≡ refusal ((not (eqb codewords 76), 2) ∷ (not (eqb bytes 33), 4) ∷ []) ⌝ }
 {
@@ -98,7 +100,8 @@ pub fn pack(codewords: &[i16], bytes: &mut [u8]) -> u8
     0
 }
 
-// The 76 codewords of 33 bytes. Refused: 2 and 4, a length; 6, a spare bit that is 1. The spare bits are the top four of the last byte.
+// The 76 codewords of 33 bytes. Refused: 2 and 4, a length; 6, a spare bit that is 1. The spare bits are the top four
+// of the last byte.
 pub fn unpack(bytes: &[u8], codewords: &mut [i16]) -> u8
     ensures { λ r. ⌜ Unpacks (now (bytes .entry)) (now (codewords .entry)) r (now (codewords .exit)) ⌝ }
 {

@@ -1,3 +1,4 @@
+-- The power is at most 2 to the 14, so the product and the sum stay inside 32 bits. The result is then the sum as it reads.
 use Prim.Native.Nat.{_*_, _≤_}
 use native.Mathlib.Nat.{mul-le-mul, le-of-lt}
 use native.Mathlib.Omega.{arith}

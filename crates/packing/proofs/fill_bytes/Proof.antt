@@ -1,3 +1,6 @@
+-- The invariant is `Packing`: the bytes written, the bits that wait and the codewords still to come make up the packed frame.
+-- A turn puts a codeword above the bits that wait (`pack-in`) and, from eight bits on, writes a byte (`pack-out`). At most 7
+-- bits wait before a turn and a field has at most 7, so all fits.
 use Prim.Native.Nat.{_+_, _-_, _≤_, _<_}
 use mathlib.Core.Path.{_≡_, ap}
 use mathlib.Core.Logic.{⊎-elim}
@@ -46,13 +49,14 @@ above-requires c κs =
 -- the codeword is above the bits that wait
 taken : (c : tie.After-above Inv-loop μ-loop)
     → let l = c .before .before .before .before in
-    Packing (l .before .before .args .codewords .now) (l .loop .i + 1) (l .loop .at) (l .loop .have + c .before .before .field-width .result)
-    (c .above .result) (l .loop .bytes)
+    let have = l .loop .have + c .before .before .field-width .result in
+    Packing (l .before .before .args .codewords .now) (l .loop .i + 1) (l .loop .at) have (c .above .result) (l .loop .bytes)
 taken c =
     let l = c .before .before .before .before in
     let s = l .before .before in
     let f : SFits w16 (getD (s .args .codewords .now) (l .loop .i) (pos 0)) = search needs in
-    pack-in (l .loop .inv .3) (s .pre .0) (s .pre .2) (omega arith) (c .before .before .field-width .ensures) (ap natAbs (back f)) (c .above .ensures)
+    let w = c .before .before .field-width .ensures in
+    pack-in (l .loop .inv .3) (s .pre .0) (s .pre .2) (omega arith) w (ap natAbs (back f)) (c .above .ensures)
 
 -- and they are at most 14
 few : (c : tie.After-above Inv-loop μ-loop) → c .before .before .before .before .loop .have + c .before .before .field-width .result ≤ 14

@@ -1,3 +1,6 @@
+-- The invariant is `Unpacking`: the codewords written, the bits that wait and the bytes still to come make up the unpacked
+-- frame. A turn reads a byte where the bits are too few (`unpack-in`), after which enough wait either way, and writes a
+-- codeword (`unpack-out`).
 use Prim.Native.Nat.{ℕ, _+_, _-_, _^_, _≤_, _<_}
 use mathlib.Core.Path.{_≡_, refl, ap, _∙_}
 use mathlib.Core.Logic.{⊎-elim}
@@ -36,10 +39,12 @@ above-requires c κs =
 -- it is above them
 refilled : (c : tie.After-above Inv-loop μ-loop)
     → let l = c .before .before .before .before .before in
-    Unpacking (l .before .before .args .bytes .now) (l .loop .at + 1) (l .loop .i) (l .loop .have + 8) (c .above .result) (l .loop .codewords)
+    let bytes = l .before .before .args .bytes .now in
+    Unpacking bytes (l .loop .at + 1) (l .loop .i) (l .loop .have + 8) (c .above .result) (l .loop .codewords)
 refilled c =
     let l = c .before .before .before .before .before in
-    unpack-in (l .loop .inv .3) (l .before .before .pre .0) (left (c .before .before)) refl (c .before .shared-slice-known2 .given (l .loop .at) .fits) (c .above .ensures)
+    let y = c .before .shared-slice-known2 .given (l .loop .at) .fits in
+    unpack-in (l .loop .inv .3) (l .before .before .pre .0) (left (c .before .before)) refl y (c .above .ensures)
 
 -- either way enough bits wait
 record Enough (c : tie.Joined1 Inv-loop μ-loop) : Type 0 where
@@ -55,7 +60,8 @@ enough c =
     let e = c .before .field-width .ensures in
     ⊎-elim
     (λ w.
-    let r = refilled (record { before = record { before = record { before = c .before; if1 = w .0 }; shared-slice-known2 = w .1 }; above = w .2 }) in
+    let t : tie.Then1 Inv-loop μ-loop = record { before = c .before; if1 = w .0 } in
+    let r = refilled (record { before = record { before = t; shared-slice-known2 = w .1 }; above = w .2 }) in
     record { wait = rw (w .3, w .4, w .5) r; most = rw (w .4) (omega (arith, w .0 .taken)); least = rw (w .4) (omega arith) })
     (λ w. record { wait = rw (w .1, w .2, w .3) (l .inv .3); most = rw (w .2) (omega arith); least = rw (w .2) (w .0 .left) })
     (c .if1 .came)
@@ -74,11 +80,12 @@ loop-again : tie.Need-loop-again Inv-loop μ-loop
 loop-again c =
     let e = enough (c .before .before .before) in
     let f = c .before .before .before .before in
-    let l = f .before .before .loop .inv .2 in (
+    let l = f .before .before .loop .inv .2 in
+    let p = c .before .before .power .ensures in (
       omega arith,
       omega (arith, e .most, e .least),
       simp length-set l,
-      unpack-out (e .wait) l (omega arith) (f .field-width .ensures) (e .least) (c .before .before .power .ensures) (back (cast-codewords (c .before))),
+      unpack-out (e .wait) l (omega arith) (f .field-width .ensures) (e .least) p (back (cast-codewords (c .before))),
     )
 
 returns : tie.Need-returns Inv-loop μ-loop

@@ -1,3 +1,4 @@
+-- Each return is a row of the two: the tests that were taken or left before it decide what `refusal` gives.
 use borrow.Author.Tests.{ne-eqb}
 use Rattle.standard.specs.House.{refusal}
 use Rattle.packing.proofs.length_refusal.Statement.{statement}

@@ -1,3 +1,5 @@
+-- One law of `Returns` for each return. Past the first test both lengths are right; past the second the codewords fit, so
+-- fill_bytes may be called.
 use mathlib.Core.Path.{_≡_, sym, _∙_}
 use lib.ListN.{length}
 use borrow.Author.Needs.{needs}

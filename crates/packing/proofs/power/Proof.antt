@@ -1,3 +1,4 @@
+-- 1 shifted left by n, at most 15, is 2 to the n: the law `power` of frame_codewords.
 use borrow.Author.Needs.{needs}
 use Rattle.frame_codewords.specs.Bits.{power}
 use Rattle.packing.proofs.power.Statement.{statement}

@@ -1,3 +1,5 @@
+-- One law of `Returns` for each return. Past the first test both lengths are right, so byte 32 is there; its quotient by 16
+-- is the spare bits.
 use mathlib.Core.Path.{_≡_, sym, _∙_}
 use native.Mathlib.Omega.{arith}
 use lib.ListN.{length}
@@ -24,7 +26,8 @@ returns-3 : tie.Need-returns-3
 returns-3 c =
     let t = c .before .before .before in
     let (l, m) = lengths (t .before .before) in
-    unpack-0 _ _ l m (spare-none (t .before .before .before .before .before .args .bytes .now) m (omega arith)) (c .before .fill-codewords .ensures)
+    let b = t .before .before .before .before .before .args .bytes .now in
+    unpack-0 _ _ l m (spare-none b m (omega arith)) (c .before .fill-codewords .ensures)
 
 pub unpack-spec : {M : Type 1} → statement M
 unpack-spec =
