@@ -1,4 +1,5 @@
--- 01, over any outcome that decode's promise allows: the number and when it is given, sound states, valid bits, the low bits of a sample.
+-- What the house rules say of any outcome that decode's promise allows: the number and when it is given ('Refusals'), sound
+-- states ('Soundness'), valid bits and the low bits of a sample ('Samples and codewords'), home ('Home').
 use mathlib.Core.Path.{_≡_, sym, _∙_}
 use mathlib.Core.Bool.{true}
 use mathlib.Core.List.{List, map}
@@ -17,11 +18,11 @@ use Rattle.decoder.specs.declared.Decoded.{Decoded}
 use Rattle.decoder.specs.Promise.{memory, Decodes, same-state, one-outcome}
 
 module _ (d : Decoder) (codewords lent : List ℤ) (a : Decoded) (left : List ℤ) (p : Decodes d codewords lent a left) where
-  -- the number answered is 01's
+  -- the number answered is the one that the rows of 'Refusals' give
   pub number-is : a .number ≡ decode-refusal (memory d) codewords lent
   number-is = p .number ∙ decode-number (memory d) codewords lent
 
-  -- a sound state is handed back sound, refused or not
+  -- from a sound state the answer's state is sound, refused or not
   pub state-sound : sound-decoder (memory d) ≡ true → sound-decoder (memory (a .state)) ≡ true
   state-sound h = rw (p .state) (decode-sound (memory d) codewords lent h)
 
@@ -31,12 +32,14 @@ module _ (d : Decoder) (codewords lent : List ℤ) (a : Decoded) (left : List �
       let t = decode-done (memory d) codewords lent (sym number-is ∙ e) in
       rw (rw t at (p .samples)) (decoded-samples (memory d) (received codewords))
 
-  -- stray bits change nothing: codewords with the same valid bits have the same outcome
-  pub valid-only : (codewords′ : List ℤ) (b : Decoded) (left′ : List ℤ) → length codewords ≡ length codewords′ → valid codewords ≡ valid codewords′
+  -- bits outside the fields change nothing: codewords with the same valid bits have the same outcome
+  pub valid-only : (codewords′ : List ℤ) (b : Decoded) (left′ : List ℤ)
+      → length codewords ≡ length codewords′ → valid codewords ≡ valid codewords′
       → Decodes d codewords′ lent b left′ → (a ≡ b) × (left ≡ left′)
   valid-only codewords′ b left′ l e q =
       let v = decode-valid (memory d) codewords codewords′ lent l e in
-      one-outcome d codewords lent a b left left′ p (record { number = rw v (q .number); state = rw v (q .state); samples = rw v (q .samples) })
+      one-outcome d codewords lent a b left left′ p
+      (record { number = rw v (q .number); state = rw v (q .state); samples = rw v (q .samples) })
 
 -- ---- home
 

@@ -1,4 +1,5 @@
--- What decode and decode_alaw promise: their answer and the samples or the octets they leave, read as 01's, are those of the definitions.
+-- What decode and decode_alaw promise: their answer and the samples or the octets that they leave, read as values of the
+-- definitions, are what the definitions `decode` and `decode-alaw` (`standard`, Answers) give.
 use Prim.Native.Nat.{ℕ, zero, suc}
 use mathlib.Core.Path.{_≡_, refl, sym, ap, _∙_}
 use mathlib.Core.List.{List, map}
@@ -20,19 +21,19 @@ memory d = record { drp = d .drp; nrp = d .nrp; LARpp = d .larpp; v = d .v; msr 
 
 -- ---- the promise
 
--- of a state, the codewords and the samples lent, the answer, and the samples left
+-- the state, the codewords, the samples that were passed as a buffer, the answer, and the samples left in the buffer
 pub record Decodes (d : Decoder) (codewords lent : List ℤ) (a : Decoded) (left : List ℤ) : Type 0 where
   pub number : a .number ≡ answers.decode (memory d) codewords lent .number
   pub state : memory (a .state) ≡ answers.decode (memory d) codewords lent .state
   pub samples : left ≡ answers.decode (memory d) codewords lent .samples
 
--- of decode_alaw: the octets in the place of the samples (02, W-204)
+-- decode_alaw: octets in the place of the samples (house rules, 'A-law'; request W-204)
 pub record DecodesAlaw (d : Decoder) (codewords : List ℤ) (lent : List ℕ) (a : Decoded) (left : List ℕ) : Type 0 where
   pub number : a .number ≡ answers.decode-alaw (memory d) codewords lent .number
   pub state : memory (a .state) ≡ answers.decode-alaw (memory d) codewords lent .state
   pub octets : left ≡ answers.decode-alaw (memory d) codewords lent .octets
 
--- ---- it determines the outcome: no two states stand for the same
+-- ---- it determines the outcome: two states that stand for the same are equal
 
 abbrev pub decoder-of : standard.Decoder → Decoder
 decoder-of m = record { drp = m .drp; nrp = m .nrp; larpp = m .LARpp; v = m .v; msr = m .msr }
@@ -58,12 +59,12 @@ one-outcome d codewords lent a b l r p q =
 
 -- ---- what it says of a refusal
 
--- the number, and the state as handed in
+-- the number, and the state as it was passed in
 unfoldable pub refused : ℕ → Decoder → Decoded
 refused n d = record { number = n; state = d }
 
 module _ (d : Decoder) (codewords lent : List ℤ) (n : ℕ) (h : decode-refusal (memory d) codewords lent ≡ suc n) where
-  -- such an answer keeps the promise, with the samples as they were lent
+  -- such an answer keeps the promise, with the samples as they were passed
   pub refusal-keeps : Decodes d codewords lent (refused (suc n) d) lent
   unfolding refused
   refusal-keeps =
@@ -94,18 +95,19 @@ one-octets d codewords lent a b l r p q =
     (same-answer (p .number ∙ sym (q .number)) state, p .octets ∙ sym (q .octets))
 
 module _ (d : Decoder) (codewords : List ℤ) (lent : List ℕ) (n : ℕ) (h : decode-alaw-refusal (memory d) codewords lent ≡ suc n) where
-  -- a refusal keeps it, with the octets as they were lent
+  -- a refusal keeps it, with the octets as they were passed
   pub refusal-keeps-octets : DecodesAlaw d codewords lent (refused (suc n) d) lent
   unfolding refused
   refusal-keeps-octets =
       let r = decode-alaw-refused (memory d) codewords lent n h in
       record { number = rw r; state = rw r; octets = rw r }
 
-  -- and nothing else does
+  -- and no other answer does
   pub one-octets-refusal : (a : Decoded) (left : List ℕ) → DecodesAlaw d codewords lent a left → (a ≡ refused (suc n) d) × (left ≡ lent)
   one-octets-refusal a left p = one-octets d codewords lent a (refused (suc n) d) left lent p refusal-keeps-octets
 
-module _ (d : Decoder) (codewords samples : List ℤ) (a : Decoded) (left : List ℤ) (p : Decodes d codewords samples a left) (lent : List ℕ) where
+module _ (d : Decoder) (codewords samples : List ℤ) (a : Decoded) (left : List ℤ) (p : Decodes d codewords samples a left)
+    (lent : List ℕ) where
   by-number : (n : ℕ) → decode-refusal (memory d) codewords samples ≡ n → length lent ≡ length samples
       → DecodesAlaw d codewords lent a (answer (a .number) (alaw-octets left) (λ _. lent))
   unfolding answer
@@ -121,12 +123,12 @@ module _ (d : Decoder) (codewords samples : List ℤ) (a : Decoded) (left : List
       let number : a .number ≡ suc n = rw r at (p .number) in
       record { number = rw (q, number); state = rw q (rw r at (p .state)); octets = rw (q, number) }
 
-  -- what decode answers, and its samples as octets where it is done, keep it: decode_alaw is decode, heard as A-law
+  -- decode's answer keeps it, with decode's samples as octets where the number is 0 and the octets as they were where not
   pub octets-keep : length lent ≡ length samples → DecodesAlaw d codewords lent a (answer (a .number) (alaw-octets left) (λ _. lent))
   octets-keep = by-number (decode-refusal (memory d) codewords samples) refl
 
 module _ (d : Decoder) (codewords : List ℤ) (lent : List ℕ) (a : Decoded) (left : List ℕ) (p : DecodesAlaw d codewords lent a left) where
-  -- number and state are those of decode, lent as many samples
+  -- number and state are those of decode where it is passed as many samples
   pub octets-decode : Decodes d codewords (map pos lent) a (answers.decode (memory d) codewords (map pos lent) .samples)
   octets-decode =
       let e = decode-alaw-as (memory d) codewords lent (map pos lent) (sym (length-map lent pos)) in

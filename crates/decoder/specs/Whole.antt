@@ -1,4 +1,4 @@
--- 4.3, the whole: what a frame of codewords comes to, by the steps in which it is done.
+-- 4.3, the whole: what a frame of codewords is decoded to, by the steps in which the code does it.
 use mathlib.Core.Path.{_≡_, refl}
 use mathlib.Core.List.{List, _++_, append-nil, flatten}
 use Prim.Native.Nat.{_≤_}
@@ -27,13 +27,14 @@ pub whole : (m : standard.Decoder) (c drp : List ℤ) (nrp : ℤ) (larpp v : Lis
     → let t = frame-reconstructed (m .drp) (m .nrp) c in
     let s = frame-spoken (m .v) (m .msr) (m .LARpp) larpp (flatten (t .1)) in
     drp ≡ t .0 .0 → nrp ≡ t .0 .1 → larpp ≡ ratios (ratio-words c) → v ≡ s .0 .0 → msr ≡ s .0 .1 → samples ≡ s .1
-    → (record { drp = drp; nrp = nrp; LARpp = larpp; v = v; msr = msr } ≡ standard.decoded m (received c) .0) × (samples ≡ standard.decoded m (received c) .1)
+    → (record { drp = drp; nrp = nrp; LARpp = larpp; v = v; msr = msr } ≡ standard.decoded m (received c) .0)
+    × (samples ≡ standard.decoded m (received c) .1)
 whole m c drp nrp larpp v msr samples a b l e f g = rw (decoded-is m c, a, b, e, f, g, l) (refl, refl)
 
 -- ---- one list for the history and the residual
 
 module _ {A : Type 0} (drp z : List A) (d : length drp ≡ 120) (l : length z ≡ 160) where
-  -- it is lent whole, and starts with the history
+  -- it is passed whole, and starts with the history
   pub lent-history : take 120 (take 280 (drp ++ z)) ≡ drp
   lent-history = rw (take-take 120 280 (drp ++ z) (omega arith)) (take-at drp z 120 d)
 

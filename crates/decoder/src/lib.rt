@@ -1,5 +1,5 @@
-// The decoder: its state, home, and decode, which is the whole of 4.3 behind the refusals of 01; decode_alaw, which leaves octets. What both
-// promise is in specs/Promise.antt.
+// The decoder: its state, home, and decode, which is the whole of 4.3 behind the refusals of the house rules
+// ('Refusals'); and decode_alaw, which leaves octets. What both promise is in specs/Promise.antt.
 use short_synthesis::Cells;
 ghost use mathlib.Core.Path.{_≡_};
 ghost use mathlib.Core.Bool.{true};
@@ -10,8 +10,8 @@ ghost use Rattle.standard.specs.Decoder as standard;
 ghost use Rattle.standard.specs.House.{home-decoder, sound-decoder};
 ghost use Rattle.decoder.specs.Promise.{memory, Decodes, DecodesAlaw, refused};
 
-// 4.3: what is kept for the next frame. drp holds the residual's last 120 samples, the oldest first; nrp is the remembered lag. A caller in
-// C has the same struct.
+// 4.3: what is kept for the next frame. drp holds the residual's last 120 samples, the oldest first; nrp is the
+// remembered lag. A caller in C has the same struct.
 #[repr(C)]
 pub struct Decoder {
     pub drp: [i16; 120],
@@ -21,18 +21,20 @@ pub struct Decoder {
     pub msr: i16,
 }
 
-// The answer: the state to go on with, and the refusal number, 0 where it is done. It crosses to C too: 278 bytes, no padding.
+// The answer: the state for the next call, and the refusal number, which is 0 where nothing is refused. A caller in C
+// has the same struct: 278 bytes, no padding.
 #[repr(C)]
 pub struct Decoded {
     pub state: Decoder,
     pub number: u16,
 }
 
-// 4.3, the whole: 76 codewords, 160 samples, and the state after them.
+// 4.3, the whole: from 76 codewords to 160 samples, with the new state.
 fn frame(m: Decoder, codewords: &[i16], samples: &mut [i16]) -> Decoder
     requires { ⌜ (length (now codewords) ≡ 76) × ((length (now samples) ≡ 160) × (is-lag (m .nrp) ≡ true)) ⌝ }
     ensures state { λ r. ⌜ memory r ≡ standard.decoded (memory m) (received (now (codewords .entry))) .0 ⌝ }
-    ensures samples { λ r. ⌜ now (samples .exit) ≡ standard.decoded (memory m) (received (now (codewords .entry))) .1 ⌝ }
+    ensures samples { λ r. ⌜ now (samples .exit)
+        ≡ standard.decoded (memory m) (received (now (codewords .entry))) .1 ⌝ }
 {
     let before = m.drp;
     let old = m.larpp;
@@ -57,14 +59,14 @@ fn frame(m: Decoder, codewords: &[i16], samples: &mut [i16]) -> Decoder
     }
 }
 
-// 01: a state may be handed in when its remembered lag is from 40 to 120.
+// House rules, 'Soundness': the remembered lag is from 40 to 120.
 fn sound(m: Decoder) -> bool
     ensures { λ r. ⌜ r ≡ sound-decoder (memory m) ⌝ }
 {
     40 <= m.nrp && m.nrp <= 120
 }
 
-// A refusal: the number, and the state as handed in.
+// A refusal: the number, and the state as it was passed in.
 fn refuse(number: u16, m: Decoder) -> Decoded
     ensures { λ r. ⌜ r ≡ refused number m ⌝ }
 {
@@ -75,7 +77,7 @@ fn refuse(number: u16, m: Decoder) -> Decoded
 }
 
 impl Decoder {
-    // Every carried value 0, the remembered lag 40 (4.3.2).
+    // House rules, 'Home': every carried value is 0, and the remembered lag is 40 (4.3.2).
     pub fn home() -> Decoder
         ensures { λ r. ⌜ memory r ≡ home-decoder ⌝ }
     {
@@ -108,7 +110,7 @@ impl Decoder {
         }
     }
 
-    // The same as 160 octets of A-law.
+    // The same with 160 octets of A-law in the place of the samples. A refusal leaves the octets as they were.
     pub fn decode_alaw(self, codewords: &[i16], octets: &mut [u8]) -> Decoded
         ensures { λ r. ⌜ DecodesAlaw self (now (codewords .entry)) (now (octets .entry)) r (now (octets .exit)) ⌝ }
     {

@@ -1,4 +1,5 @@
--- 01, over any outcome that encode's promise allows: the number and when it is given, sound states, the fields, the low bits of a sample.
+-- What the house rules say of any outcome that encode's promise allows: the number and when it is given ('Refusals'), sound
+-- states ('Soundness'), the fields and the low bits of a sample ('Samples and codewords'), home ('Home').
 use mathlib.Core.Path.{_≡_, sym, ap, _∙_}
 use mathlib.Core.Bool.{true}
 use mathlib.Core.List.{List, map}
@@ -28,11 +29,11 @@ low-bits c s s′ w h h′ e =
     rw (l, t)
 
 module _ (e : Encoder) (samples lent : List ℤ) (a : Encoded) (left : List ℤ) (p : Encodes e samples lent a left) where
-  -- the number answered is 01's
+  -- the number answered is the one that the rows of 'Refusals' give
   pub number-is : a .number ≡ encode-refusal (coder e) samples lent
   number-is = p .number ∙ encode-number (coder e) samples lent
 
-  -- a sound state is handed back sound, refused or not
+  -- from a sound state the answer's state is sound, refused or not
   pub state-sound : sound-coder (coder e) ≡ true → every word samples ≡ true → sound-coder (coder (a .state)) ≡ true
   state-sound h w = rw (p .state) (encode-sound (coder e) samples lent h w)
 
@@ -48,7 +49,13 @@ module _ (e : Encoder) (samples lent : List ℤ) (a : Encoded) (left : List ℤ)
   valid-only samples′ b left′ h h′ s q =
       let v = low-bits (coder e) samples samples′ lent h h′ s in
       one-outcome e samples lent a b left left′ p
-      (record { number = rw v (q .number); state = rw v (q .state); ending = rw v (q .ending); marks = rw v (q .marks); codewords = rw v (q .codewords) })
+      (record {
+        number = rw v (q .number);
+        state = rw v (q .state);
+        ending = rw v (q .ending);
+        marks = rw v (q .marks);
+        codewords = rw v (q .codewords);
+      })
 
 -- ---- home
 

@@ -1,4 +1,5 @@
--- What encode promises: its answer and the codewords it leaves, read as 01's, are those of the definition.
+-- What encode promises: its answer and the codewords that it leaves, read as values of the definitions, are what the
+-- definition `encode` (`standard`, Answers) gives.
 use Prim.Native.Nat.{ℕ, suc}
 use mathlib.Core.Path.{_≡_, refl, sym, ap, _∙_}
 use mathlib.Core.Option.{Option, none, some}
@@ -45,7 +46,7 @@ marks m = mark (m .first) ∷ mark (m .second) ∷ mark (m .third) ∷ mark (m .
 
 -- ---- the promise
 
--- of a state, the samples and the codewords lent, the answer, and the codewords left
+-- the state, the samples, the codewords that were passed as a buffer, the answer, and the codewords left in the buffer
 pub record Encodes (e : Encoder) (samples lent : List ℤ) (a : Encoded) (left : List ℤ) : Type 0 where
   pub number : a .number ≡ answers.encode (coder e) samples lent .number
   pub state : coder (a .state) ≡ answers.encode (coder e) samples lent .state
@@ -53,7 +54,7 @@ pub record Encodes (e : Encoder) (samples lent : List ℤ) (a : Encoded) (left :
   pub marks : marks (a .marks) ≡ answers.encode (coder e) samples lent .marks
   pub codewords : left ≡ answers.encode (coder e) samples lent .codewords
 
--- ---- it determines the outcome: no two values of a type stand for the same
+-- ---- it determines the outcome: two values of a type that stand for the same are equal
 
 -- a state is read back from what it stands for
 abbrev pub encoder-of : Coder → Encoder
@@ -122,7 +123,8 @@ encoded number state ending marks = record { number = number; state = state; end
 -- two answers of the same parts are one
 same-answer : {a b : Encoded} → a .number ≡ b .number → a .state ≡ b .state → a .ending ≡ b .ending → a .marks ≡ b .marks → a ≡ b
 same-answer {a} {b} n s e m =
-    let parts : encoded (a .number) (a .state) (a .ending) (a .marks) ≡ encoded (b .number) (b .state) (b .ending) (b .marks) = cc (n, s, e, m) in
+    let parts : encoded (a .number) (a .state) (a .ending) (a .marks)
+    ≡ encoded (b .number) (b .state) (b .ending) (b .marks) = cc (n, s, e, m) in
     parts
 
 -- any two outcomes that satisfy the promise are equal
@@ -137,14 +139,14 @@ one-outcome e samples lent a b l r p q =
 
 -- ---- what it says of a refusal
 
--- the number, the state as handed in, no ending, no marks
+-- the number, the state as it was passed in, no ending, no marks
 unfoldable pub refused : ℕ → Encoder → Encoded
 refused n e =
     let none : Marks = record { first = Mark-of.Absent; second = Mark-of.Absent; third = Mark-of.Absent; fourth = Mark-of.Absent } in
     record { number = n; state = e; ending = Ending-of.Absent; marks = none }
 
 module _ (e : Encoder) (samples lent : List ℤ) (n : ℕ) (h : encode-refusal (coder e) samples lent ≡ suc n) where
-  -- such an answer keeps the promise, with the codewords as they were lent
+  -- such an answer keeps the promise, with the codewords as they were passed
   pub refusal-keeps : Encodes e samples lent (refused (suc n) e) lent
   unfolding refused ending mark marks
   refusal-keeps =
@@ -160,7 +162,8 @@ module _ (e : Encoder) (samples lent : List ℤ) (n : ℕ) (h : encode-refusal (
 module _ (e : Encoder) (samples lent : List ℤ) (h : encode-refusal (coder e) samples lent ≡ 0) where
   -- an answer and codewords that are the standard's keep the promise
   pub done-keeps : (s : Encoder) (n : Ending) (m : Marks) (left : List ℤ) → let t = coded (coder e) samples in
-      coder s ≡ t .0 → ending n ≡ some (t .1 .ending) → marks m ≡ map (λ x. some (house.mark x)) (t .1 .subframes) → left ≡ words (frame (t .1))
+      coder s ≡ t .0 → ending n ≡ some (t .1 .ending) → marks m ≡ map (λ x. some (house.mark x)) (t .1 .subframes)
+      → left ≡ words (frame (t .1))
       → Encodes e samples lent (record { number = 0; state = s; ending = n; marks = m }) left
   done-keeps s n m left p q r w =
       let d = encode-done (coder e) samples lent h in

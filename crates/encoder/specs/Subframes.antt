@@ -1,4 +1,4 @@
--- The four sub-frames of a frame, one after the other on one list of the history and of what they add.
+-- The four sub-frames of a frame, one after the other, on one list: the history, and then what each adds.
 use Prim.Native.Nat.{ℕ, _+_, _*_}
 use mathlib.Core.Path.{_≡_, refl, sym, ap, _∙_}
 use mathlib.Core.Option.{Option, some}
@@ -40,7 +40,7 @@ module _ (dp d : List ℤ) where
   abbrev pub dp₄ : List ℤ
   dp₄ = sub-step dp₃ (own 3 d) .0
 
-  -- what is made of each
+  -- what each is coded as
   abbrev pub four : List Subcoded
   four = sub-coded dp (own 0 d) ∷ sub-coded dp₁ (own 1 d) ∷ sub-coded dp₂ (own 2 d) ∷ sub-coded dp₃ (own 3 d) ∷ []
 
@@ -78,7 +78,9 @@ module _ (dp d : List ℤ) where
   -- a sub-frame adds 40
   added-length : length dp ≡ 120 → length (added dp d) ≡ 40
   unfolding added
-  added-length l = let f = sub-coded dp d .codes in reconstructed-length (natAbs (f .Nc)) f dp (sub-coded-lag dp d) (sub-coded-pulses dp d) l
+  added-length l =
+      let f = sub-coded dp d .codes in
+      reconstructed-length (natAbs (f .Nc)) f dp (sub-coded-lag dp d) (sub-coded-pulses dp d) l
 
 -- one sub-frame: what stands in the list before it and after
 module _ (n : ℕ) {dp x r h : List ℤ} (t : Stands (40 * n) dp x r h) (d : List ℤ) where

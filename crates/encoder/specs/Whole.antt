@@ -1,4 +1,4 @@
--- 4.2, the whole: what a frame of samples comes to, by the steps in which it is done.
+-- 4.2, the whole: what a frame of samples is coded as, by the steps in which the code does it.
 use mathlib.Core.Path.{_≡_, refl}
 use mathlib.Core.Option.{Option, some}
 use mathlib.Core.List.{List, [], _++_, map, flatten}
@@ -16,7 +16,7 @@ use Rattle.encoder.specs.Subframes.{dp₄, four, four-words, four-marks,
 abbrev pub coded-marks : Coder → List ℤ → List (Option Mark)
 coded-marks c samples = map (λ s. some (mark s)) (coded c samples .1 .subframes)
 
--- a coder whose history the analysis does not see
+-- the coder with an empty history: the analysis does not use the history
 abbrev pub unseen : Coder → Coder
 unseen c = record { z1 = c .z1; L-z2 = c .L-z2; mp = c .mp; LARpp = c .LARpp; u = c .u; dp = [] }
 

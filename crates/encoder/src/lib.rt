@@ -1,5 +1,5 @@
-// The encoder: its state, home, and encode, which is the whole of 4.2 behind the refusals of 01; encode_alaw, which takes octets. What both
-// promise is in specs/Promise.antt.
+// The encoder: its state, home, and encode, which is the whole of 4.2 behind the refusals of the house rules
+// ('Refusals'); and encode_alaw, which takes octets. What both promise is in specs/Promise.antt.
 use frame_analysis::Filters;
 use lpc_reflection::Ending as Ended;
 ghost use mathlib.Core.Path.{_≡_};
@@ -21,8 +21,8 @@ ghost use Rattle.math_lists.specs.Parts.{put};
 ghost use Rattle.encoder.specs.Subframes.{own, before, four-added, four-words, four-marks};
 ghost use Rattle.encoder.specs.Whole.{coded-marks};
 
-// 4.2: what is kept for the next frame. dp holds the residual's last 120 samples, the oldest first. A caller in C has the same struct: the
-// widest value stands first, so that it has no padding.
+// 4.2: what is kept for the next frame. dp holds the residual's last 120 samples, the oldest first. A caller in C has
+// the same struct: the widest value stands first, so that it has no padding.
 #[repr(C)]
 pub struct Encoder {
     pub l_z2: i32,
@@ -33,7 +33,7 @@ pub struct Encoder {
     pub dp: [i16; 120],
 }
 
-// 4.2.5: how the recursion ended; absent where encode refuses.
+// 4.2.5: how the recursion ended (house rules, 'Endings'); absent where encode refuses.
 pub enum Ending {
     Absent,
     Silent,
@@ -41,7 +41,8 @@ pub enum Ending {
     Complete,
 }
 
-// Whether a lag was found or is only where the search stood; absent where encode refuses.
+// Whether a lag was found, or is the lag 40 that the search started with (house rules, 'Marks'); absent where encode
+// refuses.
 pub enum Mark {
     Absent,
     Rule,
@@ -56,7 +57,8 @@ pub struct Marks {
     pub fourth: Mark,
 }
 
-// The answer: the refusal number, 0 where it is done, and the state to go on with.
+// The answer: the refusal number, which is 0 where nothing is refused; the state for the next call; the ending and the
+// marks.
 pub struct Encoded {
     pub number: u8,
     pub state: Encoder,
@@ -64,20 +66,21 @@ pub struct Encoded {
     pub marks: Marks,
 }
 
-// What is made of a frame, beside its codewords.
+// What a frame gives beside its codewords.
 struct Coded {
     state: Encoder,
     ending: Ending,
     marks: Marks,
 }
 
+// Whether z is in the range from least to most.
 fn within(least: i32, most: i32, z: i32) -> bool
     ensures { λ r. ⌜ r ≡ within least most z ⌝ }
 {
     least <= z && z <= most
 }
 
-// 01: a state may be handed in when z1 and the distance of L_z2 from 32768 times z1 are in their ranges.
+// House rules, 'Soundness': z1 and the difference L_z2 - 32768 * z1 are in their ranges.
 fn sound(e: Encoder) -> bool
     ensures { λ r. ⌜ r ≡ house.sound-coder (coder e) ⌝ }
 {
@@ -86,7 +89,7 @@ fn sound(e: Encoder) -> bool
     within(-16384, 16380, z1) && within(centre - 536740337, centre + 536871409, e.l_z2)
 }
 
-// 02, W-203: a lag is found when some lag had a positive sum.
+// House rules, 'Marks' (request W-203): a lag is found when some lag had a positive sum.
 fn marked(positive: bool) -> Mark
     ensures { λ r. ⌜ mark r ≡ some (cond positive house.found house.rule) ⌝ }
 {
@@ -104,23 +107,29 @@ fn answered(e: Ended) -> Ending
     }
 }
 
-// Sub-frame n, from 0 to 3, with its mark. It is lent all of d and of the history, reads its own 40 of d and 120 of dp, and adds 40 to dp.
+// Sub-frame n, from 0 to 3, with its mark. It is passed all of d and of the history. It reads its own 40 samples of d
+// and the 120 of dp before them, and adds 40 to dp.
 fn sub_frame(n: usize, d: &[i16], dp: &mut [i16], c: &mut [i16]) -> Mark
     requires { ⌜ ((n ≤ 3) × (length (now d) ≡ 160)) × ((length (now dp) ≡ 280) × (length (now c) ≡ 17)) ⌝ }
-    ensures mark { λ r. ⌜ mark r ≡ some (house.mark (standard.sub-coded (before n (now (dp .entry))) (own n (now (d .entry))))) ⌝ }
-    ensures codewords { λ r. ⌜ now (c .exit) ≡ sub-words (standard.sub-coded (before n (now (dp .entry))) (own n (now (d .entry))) .codes) ⌝ }
-    ensures history { λ r. ⌜ now (dp .exit) ≡ put (40 * n) 160 (now (dp .entry)) (before n (now (dp .entry)) ++ added (before n (now (dp .entry))) (own n (now (d .entry)))) ⌝ }
+    ensures mark { λ r. ⌜ mark r
+        ≡ some (house.mark (standard.sub-coded (before n (now (dp .entry))) (own n (now (d .entry))))) ⌝ }
+    ensures codewords { λ r. ⌜ now (c .exit)
+        ≡ sub-words (standard.sub-coded (before n (now (dp .entry))) (own n (now (d .entry))) .codes) ⌝ }
+    ensures history { λ r. ⌜ now (dp .exit)
+        ≡ put (40 * n) 160 (now (dp .entry))
+        (before n (now (dp .entry)) ++ added (before n (now (dp .entry))) (own n (now (d .entry)))) ⌝ }
 {
     let a = 40 * n;
     let search = frame_subframe::sub_coded(&d[a..a + 40], &mut dp[a..a + 160], c);
     marked(search.positive)
 }
 
-// The four sub-frames, each after what stands in dp by then; each is lent the 17 codewords that it fills.
+// The four sub-frames. Each goes on from what dp holds by then, and is passed the 17 codewords that it fills.
 fn sub_frames(d: &[i16], dp: &mut [i16], codewords: &mut [i16]) -> Marks
     requires { ⌜ (length (now d) ≡ 160) × ((length (now dp) ≡ 280) × (length (now codewords) ≡ 76)) ⌝ }
     ensures marks { λ r. ⌜ marks r ≡ four-marks (take 120 (now (dp .entry))) (now (d .entry)) ⌝ }
-    ensures codewords { λ r. ⌜ now (codewords .exit) ≡ take 8 (now (codewords .entry)) ++ four-words (take 120 (now (dp .entry))) (now (d .entry)) ⌝ }
+    ensures codewords { λ r. ⌜ now (codewords .exit)
+        ≡ take 8 (now (codewords .entry)) ++ four-words (take 120 (now (dp .entry))) (now (d .entry)) ⌝ }
     ensures history { λ r. ⌜ now (dp .exit) ≡ four-added (take 120 (now (dp .entry))) (now (d .entry)) ⌝ }
 {
     let first = sub_frame(0, d, dp, &mut codewords[8..25]);
@@ -145,20 +154,22 @@ fn ratios(larc: [i16; 8], c: &mut [i16])
     }
 }
 
-// Room for d, or for the samples of a frame.
+// A buffer for d, or for the samples of a frame.
 fn room() -> [i16; 160]
     ensures { λ r. ⌜ r ≡ replicate 160 (pos 0) ⌝ }
 {
     [0; 160]
 }
 
-// 4.2, the whole: 160 samples, 76 codewords, and what is said of them.
+// 4.2, the whole: from 160 samples to 76 codewords, with the new state, the ending and the marks.
 fn frame(e: Encoder, samples: &[i16], codewords: &mut [i16]) -> Coded
-    requires { ⌜ (length (now samples) ≡ 160) × ((length (now codewords) ≡ 76) × (house.sound-coder (coder e) ≡ true)) ⌝ }
+    requires { ⌜ (length (now samples) ≡ 160)
+        × ((length (now codewords) ≡ 76) × (house.sound-coder (coder e) ≡ true)) ⌝ }
     ensures state { λ r. ⌜ coder (r .state) ≡ standard.coded (coder e) (now (samples .entry)) .0 ⌝ }
     ensures ending { λ r. ⌜ ending (r .ending) ≡ some (standard.coded (coder e) (now (samples .entry)) .1 .ending) ⌝ }
     ensures marks { λ r. ⌜ marks (r .marks) ≡ coded-marks (coder e) (now (samples .entry)) ⌝ }
-    ensures codewords { λ r. ⌜ now (codewords .exit) ≡ words (standard.frame (standard.coded (coder e) (now (samples .entry)) .1)) ⌝ }
+    ensures codewords { λ r. ⌜ now (codewords .exit)
+        ≡ words (standard.frame (standard.coded (coder e) (now (samples .entry)) .1)) ⌝ }
 {
     let larpp = e.larpp;
     let u = e.u;
@@ -197,7 +208,7 @@ fn frame(e: Encoder, samples: &[i16], codewords: &mut [i16]) -> Coded
     }
 }
 
-// A refusal: the number, the state as handed in, no ending and no marks.
+// A refusal: the number, the state as it was passed in, no ending and no marks.
 fn refuse(number: u8, e: Encoder) -> Encoded
     ensures { λ r. ⌜ r ≡ refused number e ⌝ }
 {
@@ -215,7 +226,7 @@ fn refuse(number: u8, e: Encoder) -> Encoded
 }
 
 impl Encoder {
-    // Every carried value 0.
+    // House rules, 'Home': every carried value is 0.
     pub fn home() -> Encoder
         ensures { λ r. ⌜ coder r ≡ house.home-coder ⌝ }
     {
@@ -254,9 +265,10 @@ impl Encoder {
         }
     }
 
-    // The same of 160 octets of A-law, over the samples that they stand for.
+    // The same for 160 octets of A-law: encode of the samples that they stand for.
     pub fn encode_alaw(self, octets: &[u8], codewords: &mut [i16]) -> Encoded
-        ensures { λ r. ⌜ Encodes self (alaw-samples (now (octets .entry))) (now (codewords .entry)) r (now (codewords .exit)) ⌝ }
+        ensures { λ r. ⌜ Encodes self (alaw-samples (now (octets .entry)))
+            (now (codewords .entry)) r (now (codewords .exit)) ⌝ }
     {
         if octets.len() != 160 {
             return refuse(1, self);

@@ -1,3 +1,4 @@
+-- The struct that is returned is the definition `refused`, by unfolding.
 use mathlib.Core.Path.{refl}
 use Rattle.decoder.specs.Promise.{refused}
 use Rattle.decoder.proofs.refuse.Statement.{statement}

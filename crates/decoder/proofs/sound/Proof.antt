@@ -1,3 +1,4 @@
+-- nrp is a word, so the two comparisons are those of the definition; each return is one outcome of the first.
 use mathlib.Core.Path.{_≡_}
 use mathlib.Core.Bool.{true, false}
 use borrow.Author.Needs.{needs}
@@ -14,10 +15,11 @@ use Rattle.decoder.proofs.sound.Tie as tie
 returns : tie.Need-returns
 unfolding memory sound-decoder
 returns c =
-    let nrp = c .before .before .before .before .before .args .m .nrp in
+    let t = c .before .before in
+    let nrp = t .before .before .before .args .m .nrp in
     let f : SFits w16 nrp = search needs in
     let n = back f in
-    let low : leZ (pos 40) nrp ≡ true = rw n at (c .before .before .if1 .taken) in
+    let low : leZ (pos 40) nrp ≡ true = rw n at (t .if1 .taken) in
     rw (low, n)
 
 returns-2 : tie.Need-returns-2

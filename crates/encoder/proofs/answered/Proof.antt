@@ -1,3 +1,4 @@
+-- Each arm of the match tells which ending was passed, and answers the one that stands for the same.
 use mathlib.Core.Path.{sym, ap}
 use mathlib.Core.Option.{Option, some}
 use borrow.Author.Needs.{needs}

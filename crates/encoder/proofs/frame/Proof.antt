@@ -1,3 +1,5 @@
+-- The steps in order: the analysis is the definition's, from the state as it was passed; the codes of the ratios are the first
+-- eight codewords; the sub-frames read d and the history. What the steps give is put together by the laws of `Whole`.
 use Prim.Native.Nat.{_≤_}
 use mathlib.Core.Path.{_≡_, refl, ap, ap₂, _∙_}
 use mathlib.Core.Option.{some}
@@ -47,16 +49,45 @@ module _ (s : tie.Start) where
   d-length : length d-of ≡ 160
   d-length = analysis-d-length (unseen c-of) sop ∙ omega (arith, s .pre .0)
 
+-- ---- points of the code
+
+-- where the buffer for d is ready, from where its part is taken
+abbrev ready : tie.After-d → tie.After-room
+ready c = c .before .before
+
+-- the start, from there
+abbrev before-room : tie.After-room → tie.Start
+before-room c = c .before .before .before .before
+
+-- the end of the analysis, from where its parts are taken out
+abbrev analysed : tie.After-larc → tie.After-frame
+analysed c = c .before .before .before
+
+-- the codes of the ratios in place, from where the history is in place
+abbrev ratios-placed : tie.After-remembered → tie.After-ratios
+ratios-placed c = c .before .before
+
+-- the history in place, from where the sub-frames' parts are taken
+abbrev history-placed : tie.After-dp → tie.After-remembered
+history-placed c = c .before .before .before
+
+-- the end of the four sub-frames, from where the new state is put together
+abbrev four-done : tie.After-new → tie.After-sub-frames
+four-done c = c .before .before .before
+
+-- ---- the steps
+
 frame-requires : tie.Need-frame-requires
 unfolding coder sound-coder
 frame-requires c κs =
-    let s = c .before .before .before .before .before .before in
-    (s .pre .0, (ap length (ap (take 160) (c .before .before .room .ensures)), rw (back (z1-fits s), back (l-z2-fits s)) (s .pre .1 .1)))
+    let r = ready c in
+    let s = before-room r in
+    (s .pre .0, (ap length (ap (take 160) (r .room .ensures)), rw (back (z1-fits s), back (l-z2-fits s)) (s .pre .1 .1)))
 
 -- 4.2.0 to 4.2.10
 module _ (t : tie.After-frame) where
   abbrev start : tie.Start
-  start = t .before .before .before .before .before .before .before
+  start = before-room (ready (t .before))
 
   next-is : coder-of (t .frame .result .next) ≡ analysis (unseen (c-of start)) (sop start) .next
   unfolding coder
@@ -83,7 +114,7 @@ module _ (t : tie.After-frame) where
   mp-after : SFits w16 (t .frame .result .next .mp)
   mp-after = search needs
 
-  -- d as the sub-frames read it, in the front of the room that was lent
+  -- d as the sub-frames read it, at the front of the buffer that was passed
   d-back : (rest : List ℤ) → take 160 (t .frame .last .1 .1 .0 ++ rest) ≡ d-of start
   d-back rest = take-at _ rest 160 (ap length d-is ∙ d-length start) ∙ d-is
 
@@ -93,13 +124,13 @@ module _ (t : tie.After-frame) where
 -- 4.2.11 to 4.2.18
 module _ (q : tie.After-sub-frames) where
   abbrev kept : tie.After-remembered
-  kept = q .before .before .before .before .before
+  kept = history-placed (q .before .before)
 
   abbrev coded : tie.After-ratios
-  coded = kept .before .before
+  coded = ratios-placed kept
 
   abbrev found : tie.After-frame
-  found = coded .before .before .before .before .before
+  found = analysed (coded .before .before)
 
   abbrev begun : tie.Start
   begun = start found
@@ -148,7 +179,7 @@ returns : tie.Need-returns
 unfolding coder
 returns c =
     let n = c .before .before in
-    let q = n .before .before .before .before .before .before .before in
+    let q = four-done (n .before .before .before .before) in
     let t = found q in
     let s = begun q in
     let m = c-of s in
@@ -182,14 +213,14 @@ frame-spec =
     (λ c κs. search needs)
     (λ c. search needs)
     (λ c. search needs)
-    (λ c. let h = d-room (c .before .before .before .before .before .before .before .before) in search (needs, h))
+    (λ c. let h = d-room (analysed (ratios-placed (c .before) .before .before)) in search (needs, h))
     (λ c. search needs)
     (λ c. search needs)
     (λ c. search needs)
     (λ c κs. search needs)
     (λ c. search needs)
     (λ c. search needs)
-    (λ c. let h = added-room (c .before .before .before .before .before) in search (needs, h))
+    (λ c. let h = added-room (four-done (c .before .before)) in search (needs, h))
     (λ c κs. search needs)
     (λ c κs. search needs)
     (λ c. search needs)

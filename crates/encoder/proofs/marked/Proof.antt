@@ -1,4 +1,4 @@
--- The lag mark: the one test picks between found and rule, as the definition does.
+-- The one test picks between found and rule, as the definition of the mark does.
 use Rattle.encoder.specs.Promise.{mark}
 use Rattle.encoder.proofs.marked.Statement.{statement}
 use Rattle.encoder.proofs.marked.Tie as tie

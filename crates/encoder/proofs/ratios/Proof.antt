@@ -1,3 +1,4 @@
+-- Turn i copies larc[i]. The invariant says that the first i elements are larc's and the rest is as it was.
 use Prim.Native.Nat.{_-_, _≤_}
 use mathlib.Core.Path.{_≡_, refl}
 use native.Mathlib.Omega.{arith}

@@ -1,3 +1,4 @@
+-- The struct that is returned is the definition `refused`, by unfolding.
 use mathlib.Core.Path.{refl}
 use Rattle.encoder.specs.Promise.{refused}
 use Rattle.encoder.proofs.refuse.Statement.{statement}

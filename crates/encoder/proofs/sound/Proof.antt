@@ -1,3 +1,5 @@
+-- The product 32768 * z1 and the two ends of L_z2's range fit 32 bits because z1 is a word. So the two tests are those of
+-- the definition; the law `moved` turns the moved range into one of the difference.
 use Prim.Native.Nat.{ℕ, _≤_}
 use mathlib.Core.Path.{_≡_, sym, ap, _∙_}
 use mathlib.Core.Bool.{true, false}
@@ -56,18 +58,22 @@ sub-within c = let s = c .before .before .before .before in rw (z1-is s, back (c
 add-within : tie.Need-add-within
 add-within c = let s = c .before .before .before .before in rw (z1-is s, back (centre-fits s)) (most-fits s _ (omega arith))
 
+-- the start, from after the first test
+abbrev start : tie.After-within → tie.Start
+start a = a .before .before .before
+
 -- the first test
-z1-test : (a : tie.After-within) → let s = a .before .before .before in a .within .result ≡ within (neg 16384) (pos 16380) (z1 s)
+z1-test : (a : tie.After-within) → a .within .result ≡ within (neg 16384) (pos 16380) (z1 (start a))
 z1-test a =
-    let s = a .before .before .before in
+    let s = start a in
     let said : a .within .result ≡ within (neg 16384) (pos 16380) (mem w32 (mem w16 (z1 s))) = a .within .ensures in
     said ∙ ap (within (neg 16384) (pos 16380)) (z1-is s)
 
 -- and the second
-l-z2-test : (c : tie.After-within2) → let s = c .before .before .before .before .before .before in
+l-z2-test : (c : tie.After-within2) → let s = start (c .before .before .before) in
     c .within2 .result ≡ within (neg 536740337) (pos 536871409) (s .args .e .«l_z2» -ℤ pos 32768 *ℤ z1 s)
 l-z2-test c =
-    let s = c .before .before .before .before .before .before in
+    let s = start (c .before .before .before) in
     let middle = mem w32 (mem w32 (mem w16 (z1 s)) *ℤ pos 32768) in
     let said : c .within2 .result
     ≡ within (mem w32 (middle -ℤ pos 536740337)) (mem w32 (middle +ℤ pos 536871409)) (mem w32 (s .args .e .«l_z2»)) = c .within2 .ensures in
@@ -81,14 +87,14 @@ returns : tie.Need-returns
 unfolding coder sound-coder
 returns c =
     let t = c .before .before in
-    let first : within (neg 16384) (pos 16380) (z1 (t .before .before .before .before)) ≡ true = sym (z1-test (t .before)) ∙ t .if1 .taken in
+    let first : within (neg 16384) (pos 16380) (z1 (start (t .before))) ≡ true = sym (z1-test (t .before)) ∙ t .if1 .taken in
     rw first (l-z2-test c)
 
 returns-2 : tie.Need-returns-2
 unfolding coder sound-coder
 returns-2 c =
     let a = c .before in
-    let first : within (neg 16384) (pos 16380) (z1 (a .before .before .before)) ≡ false = sym (z1-test a) ∙ c .if1 .left in
+    let first : within (neg 16384) (pos 16380) (z1 (start a)) ≡ false = sym (z1-test a) ∙ c .if1 .left in
     rw first (c .if1 .left)
 
 pub sound-spec : {M : Type 1} → statement M

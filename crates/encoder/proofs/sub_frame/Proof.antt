@@ -1,5 +1,5 @@
--- One sub-frame of the encoder: it is lent two parts, and the lengths of these as the code has them are those of the definition; what it
--- hands back is read off what the sub-frame's call promises.
+-- The call is passed 40 samples of d and 160 of dp. The lengths of these parts, as the code writes them, are 40 and 160.
+-- So what frame_subframe::sub_coded promises of the parts is what is promised here of d and dp.
 use Prim.Native.Nat.{ℕ, _+_, _*_, _-_}
 use mathlib.Core.Path.{_≡_, ap, ap₂, _∙_}
 use mathlib.Core.Bool.{Bool, cond}
@@ -18,7 +18,7 @@ use Rattle.encoder.specs.Subframes.{own, before}
 use Rattle.encoder.proofs.sub_frame.Statement.{statement}
 use Rattle.encoder.proofs.sub_frame.Tie as tie
 
--- the two parts that are lent
+-- the two parts that are passed
 module _ (t : tie.After-sub-coded) where
   abbrev s : tie.Start
   s = t .before .before .before .before
@@ -26,11 +26,11 @@ module _ (t : tie.After-sub-coded) where
   abbrev n : ℕ
   n = s .args .n
 
-  -- what is made of them
+  -- what they are coded as
   abbrev made : Subcoded
   made = sub-coded (before n (s .args .dp .now)) (own n (s .args .d .now))
 
-  -- their sizes, as the code has them
+  -- their lengths, as the code has them
   size : (k : ℕ) → (40 * n + k) - 40 * n ≡ k
   size k = omega arith
 

@@ -1,3 +1,5 @@
+-- The law `turn` carries the history from each sub-frame to the next (`Stands`), so each is coded from the history that the
+-- definition has. The four parts of 17 codewords, joined, are the codewords after the first eight (`four-put`).
 use mathlib.Core.Path.{_≡_, refl, sym, ap, ap₂, _∙_}
 use mathlib.Core.Option.{Option, some}
 use mathlib.Core.List.{List, [], _∷_, _++_, append-nil, flatten}
@@ -15,7 +17,7 @@ use Rattle.encoder.specs.Subframes.{own, before, dp₁, dp₂, dp₃, ad
 use Rattle.encoder.proofs.sub_frames.Statement.{statement}
 use Rattle.encoder.proofs.sub_frames.Tie as tie
 
--- what the call is lent
+-- what the call is passed
 module _ (s : tie.Start) where
   abbrev dp : List ℤ
   dp = take 120 (s .args .dp .now)

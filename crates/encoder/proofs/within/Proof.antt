@@ -1,3 +1,4 @@
+-- The definition is the conjunction of the same two comparisons; each return is one outcome of the first.
 use Rattle.math_integers.specs.Ranges.{back}
 use Rattle.encoder.proofs.within.Statement.{statement}
 use Rattle.encoder.proofs.within.Tie as tie

@@ -1,4 +1,5 @@
--- decode_alaw is decode into a room of 160, heard as A-law where it is done.
+-- decode is called with a buffer of 160 samples, as many as there are octets, so it refuses as decode_alaw is to refuse.
+-- Where it is done its samples are written as octets; where it refuses the octets stay.
 use Prim.Native.Nat.{ℕ}
 use mathlib.Core.Path.{_≡_}
 use mathlib.Core.List.{List}
@@ -17,7 +18,7 @@ module _ (c : tie.After-decode) where
   abbrev tested : tie.Else1
   tested = c .before .before
 
-  -- the octets, as many as there is room for samples
+  -- the octets as they were passed: as many as the buffer has samples
   abbrev lent : List ℕ
   lent = tested .before .before .args .octets .now
 
@@ -33,7 +34,7 @@ returns-2 c =
     let keeps = octets-keep _ _ _ _ _ (decoded .decode .ensures) (lent decoded) (as-many decoded) in
     rw (written .octets .ensures) (rw (answer-done _ _ _ (done .if2 .taken)) at keeps)
 
--- refused: the octets as they were lent
+-- refused: the octets as they were passed
 returns-3 : tie.Need-returns-3
 returns-3 c =
     let decoded = c .before .before .before in

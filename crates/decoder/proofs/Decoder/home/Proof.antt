@@ -1,3 +1,4 @@
+-- The struct that is returned stands for `home-decoder`, by unfolding.
 use mathlib.Core.Path.{refl}
 use Rattle.standard.specs.House.{home-decoder}
 use Rattle.decoder.specs.Promise.{memory}

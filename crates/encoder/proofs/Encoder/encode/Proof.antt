@@ -1,3 +1,5 @@
+-- One return for each refusal, in the order of the numbers: the tests before it show that exactly this number is due. Past
+-- the three tests `frame` may be called, and its promise is what the definition answers.
 use mathlib.Core.Path.{_≡_, sym, _∙_}
 use mathlib.Core.Bool.{true}
 use mathlib.Core.List.{List}

@@ -1,4 +1,5 @@
--- encode_alaw is encode of the samples that the octets stand for.
+-- There are as many samples as octets, so the first test is that of encode; past it the promise is encode's own, of the
+-- samples that the octets stand for.
 use mathlib.Core.Path.{sym, _∙_}
 use borrow.Author.Needs.{needs}
 use Rattle.law_refusals.specs.Calls.{encode-exactly}
@@ -11,7 +12,8 @@ returns : tie.Need-returns
 returns c =
     let tested = c .before in
     let octets = tested .before .before .args .octets .now in
-    rw (c .refuse .ensures) (refusal-keeps _ _ _ 0 (encode-exactly _ _ _ .first (λ e. tested .if1 .taken (sym (samples-length octets) ∙ e))))
+    let due = encode-exactly _ _ _ .first (λ e. tested .if1 .taken (sym (samples-length octets) ∙ e)) in
+    rw (c .refuse .ensures) (refusal-keeps _ _ _ 0 due)
 
 returns-2 : tie.Need-returns-2
 returns-2 c =

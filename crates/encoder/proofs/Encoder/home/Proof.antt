@@ -1,3 +1,4 @@
+-- The struct that is returned stands for `home-coder`, by unfolding.
 use mathlib.Core.Path.{refl}
 use Rattle.standard.specs.House.{home-coder}
 use Rattle.encoder.specs.Promise.{coder}
