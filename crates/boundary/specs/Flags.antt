@@ -1,5 +1,5 @@
--- No flag is lost on the way to C: each ending and each mark has a number of its own, and 0 stands for them in an answer exactly where its
--- refusal number is not 0.
+-- No flag is lost on the way to C: each ending and each mark has a number of its own, and 0 stands for them in an answer
+-- exactly where its refusal number is not 0.
 use Prim.Native.Nat.{ℕ, zero, suc, _+_, _-_, _<_}
 use mathlib.Core.Path.{_≡_, refl, sym, ap, _∙_}
 use mathlib.Core.Bool.{true}
@@ -85,12 +85,12 @@ all-marked [] = refl
 all-marked (x ∷ xs) = rw (marked (house.mark x)) (all-marked xs)
 
 module _ (e : Encoder) (samples lent : List ℤ) (a : EncodeAnswer) (left : List ℤ) (p : Encodes e samples lent a left) where
-  -- the number answered is the one that 01's rows give
+  -- the number answered is the one that the rows of the house rules' 'Refusals' give
   pub number-is : a .number ≡ encode-refusal (coder e) samples lent
   unfolding encode-answer
   number-is = ap (λ (b : EncodeAnswer). b .number) (p .answer) ∙ encode-number (coder e) samples lent
 
-  -- a refusal hands back the state as it was, no ending and no marks, and leaves the codewords as they were lent
+  -- a refusal returns the state as it was passed, no ending and no marks, and leaves the codewords as they were
   pub encode-hands-back : (n : ℕ) → a .number ≡ suc n
       → (a ≡ record { state = e; number = suc n; ending = 0; marks = replicate 4 0 }) × (left ≡ lent)
   unfolding encode-answer ending-number mark-number coder
@@ -98,7 +98,7 @@ module _ (e : Encoder) (samples lent : List ℤ) (a : EncodeAnswer) (left : List
       let r = encode-refused (coder e) samples lent n (sym number-is ∙ h) in
       (rw r at (p .answer), rw r at (p .codewords))
 
-  -- what is done has an ending, and a mark for each of the four lags
+  -- an answer with number 0 has an ending, and a mark for each of the four lags
   pub encode-says : a .number ≡ 0 → (0 < a .ending) × (length (a .marks) ≡ 4) × (every (ltb 0) (a .marks) ≡ true)
   unfolding encode-answer
   encode-says h =

@@ -1,5 +1,6 @@
--- What encode promises where it is called from C: the answer is that of 01 (`standard`, Answers) as a plain struct, with a number for the
--- ending and for each mark, and the codewords left are what 01 says. The other calls promise what they promise inside.
+-- What encode promises where it is called from C: the answer is that of the definition `encode` (`standard`, Answers) as a
+-- plain struct, with a number for the ending and for each mark, and the codewords left are the definition's. The other calls
+-- promise what they promise inside.
 use Prim.Native.Nat.{ℕ, _+_}
 use mathlib.Core.Path.{_≡_}
 use mathlib.Core.Option.{Option, none, some}
@@ -35,7 +36,8 @@ encode-answer number state ending marks =
 
 -- ---- the promise
 
--- of a state, the samples and the codewords lent, the answer, and the codewords left. The samples of octets are those that they stand for
+-- the state, the samples, the codewords that were passed as a buffer, the answer, and the codewords left in the buffer. For
+-- encode_alaw the samples are those that the octets stand for
 pub record Encodes (e : Encoder) (samples lent : List ℤ) (a : EncodeAnswer) (left : List ℤ) : Type 0 where
   pub answer : let r = answers.encode (coder e) samples lent in a ≡ encode-answer (r .number) (r .state) (r .ending) (r .marks)
   pub codewords : left ≡ answers.encode (coder e) samples lent .codewords

@@ -1,4 +1,4 @@
-// Calls from C and Rust: each hands what it is given to the codec, and the codec's answer back. The states and what
+// Calls from C and Rust: each passes its arguments to the codec and returns the codec's answer. The states and what
 // decode answers are the codec's own; what is an enum inside is a number here. What encode promises here is in
 // specs/Promise.antt, and c/rpeltp.h says all of it to a C programmer.
 use decoder::Decoded;
@@ -114,7 +114,8 @@ pub extern "C" fn rpeltp_encode_alaw(
     octets: &[u8],
     codewords: &mut [i16],
 ) -> EncodeAnswer
-    ensures { λ r. ⌜ Encodes state (alaw-samples (now (octets .entry))) (now (codewords .entry)) r (now (codewords .exit)) ⌝ }
+    ensures { λ r. ⌜ Encodes state (alaw-samples (now (octets .entry)))
+        (now (codewords .entry)) r (now (codewords .exit)) ⌝ }
 {
     encode_answer(state.encode_alaw(octets, codewords))
 }
@@ -131,7 +132,7 @@ pub extern "C" fn rpeltp_decode_alaw(
     state.decode_alaw(codewords, octets)
 }
 
-// 76 codewords to 33 bytes: the refusal number, 0 where it is done.
+// 76 codewords to 33 bytes: the refusal number, which is 0 where nothing is refused.
 #[no_mangle]
 pub extern "C" fn rpeltp_pack(codewords: &[i16], bytes: &mut [u8]) -> u16
     ensures { λ r. ⌜ Packs (now (codewords .entry)) (now (bytes .entry)) r (now (bytes .exit)) ⌝ }
@@ -139,7 +140,7 @@ pub extern "C" fn rpeltp_pack(codewords: &[i16], bytes: &mut [u8]) -> u16
     packing::pack(codewords, bytes) as u16
 }
 
-// 33 bytes to 76 codewords: the refusal number, 0 where it is done.
+// 33 bytes to 76 codewords: the refusal number, which is 0 where nothing is refused.
 #[no_mangle]
 pub extern "C" fn rpeltp_unpack(bytes: &[u8], codewords: &mut [i16]) -> u16
     ensures { λ r. ⌜ Unpacks (now (bytes .entry)) (now (codewords .entry)) r (now (codewords .exit)) ⌝ }

@@ -1,4 +1,4 @@
--- The words and the bytes of a file, by their places; and what is written is read back.
+-- The words and the bytes of a file, by their indexes; and what is written is read back.
 use Prim.Native.Nat.{ℕ, zero, suc, _+_, _*_, _-_, _/_, _%_, _^_, _≤_, _<_}
 use mathlib.Core.Path.{_≡_, refl, ap, ap₂, _∙_}
 use mathlib.Core.Bool.{true}
@@ -21,9 +21,9 @@ use Rattle.standard.specs.Arithmetic.{modulo}
 use Rattle.standard.specs.Files.{file-words, file-bytes}
 use Rattle.law_arithmetic.specs.Within.{word, word-is}
 
--- ---- by their places
+-- ---- by their indexes
 
--- a word stands in the two bytes from twice its place on
+-- word i is in the two bytes from index 2 * i on
 pub word-at : (bytes : List ℕ) (i : ℕ) → 2 * i + 1 < length bytes
     → getD (file-words bytes) i (pos 0) ≡ toZ w16 (getD bytes (2 * i) 0 + 256 * getD bytes (2 * i + 1) 0)
 unfolding file-words
@@ -41,7 +41,7 @@ unfolding file-bytes
 file-bytes-length [] = refl
 file-bytes-length (w ∷ words) = omega (arith, file-bytes-length words)
 
--- a word's two stand from twice its place on, the low one first
+-- the two bytes of word i are at 2 * i and 2 * i + 1, the low one first
 pub bytes-at : (words : List ℤ) (i : ℕ) → i < length words
     → let n = modulo (getD words i (pos 0)) 65536 in
     (getD (file-bytes words) (2 * i) 0 ≡ n % 256) × (getD (file-bytes words) (2 * i + 1) 0 ≡ n / 256)

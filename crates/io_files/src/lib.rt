@@ -1,4 +1,4 @@
-// 001, A3.2: the words of a file of samples or of codewords, low byte first.
+// Annex A3.2: the words of a file of samples or of codewords, low byte first.
 ghost use mathlib.Core.Path.{_≡_};
 ghost use Prim.Native.Nat.{_+_, _*_, _/_, _%_};
 ghost use lib.ListN.{length};
@@ -7,7 +7,7 @@ ghost use mir.Val.{toZ};
 ghost use Rattle.standard.specs.Arithmetic.{modulo};
 ghost use Rattle.standard.specs.Files.{file-words, file-bytes};
 
-// Two bytes as a word. From 32768 on they stand for a negative one.
+// The word of two bytes. A number from 32768 on stands for a negative word: it is 65536 more.
 fn word(low: u8, high: u8) -> i16
     ensures { λ r. ⌜ r ≡ toZ w16 (low + 256 * high) ⌝ }
 {
@@ -26,12 +26,14 @@ fn pattern(w: i16) -> u32
     (w as i32 + 65536) as u32 % 65536
 }
 
+// A word's low byte.
 fn low(w: i16) -> u8
     ensures { λ r. ⌜ r ≡ modulo w 65536 % 256 ⌝ }
 {
     (pattern(w) % 256) as u8
 }
 
+// A word's high byte.
 fn high(w: i16) -> u8
     ensures { λ r. ⌜ r ≡ modulo w 65536 / 256 ⌝ }
 {

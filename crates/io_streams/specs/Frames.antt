@@ -1,4 +1,4 @@
--- For a loop that codes the frames of one room, all of one size, into another, one behind the other.
+-- For a loop that codes the frames of one buffer, all of one size, into another buffer, one behind the other.
 use Prim.Native.Nat.{ℕ, zero, suc, _+_, _-_, _*_, _≤_}
 use mathlib.Core.Path.{_≡_, refl, _∙_}
 use mathlib.Core.List.{List, [], _∷_, _++_, append-nil, flatten}
@@ -18,7 +18,7 @@ unfolding cut
 cut-more k zero xs = rw mul-zero
 cut-more k (suc n) xs = rw (cut-more k n (drop k xs), drop-drop (k * n) k xs, mul-suc k n, add-comm k (k * n))
 
--- bytes put from the front of a room that is as long as they are fill it
+-- bytes put from the front of a buffer that is as long as they are fill it
 pub puts-all : (t xs : List ℕ) {r : ℕ} {ys : List ℕ} → Puts 0 t xs r ys → length xs ≡ length t → ys ≡ t
 puts-all t xs p h = p .text ∙ rw (drop-of-length-le xs {i = length t} (omega arith), append-nil)
 
@@ -28,7 +28,7 @@ module _ {S : Type 0} (step : S → List ℕ → S × List ℕ) (size : ℕ) whe
   abbrev pub through : S → ℕ → List ℕ → S × List (List ℕ)
   through s n xs = run step s (cut (replicate n size) xs)
 
-  -- what coding them comes to: the state after them, and their bytes put in front of the room, up to the place r
+  -- what coding them gives: the state after them, and their bytes at the front of the buffer, up to the index r
   pub record Through (s : S) (n : ℕ) (xs lent : List ℕ) (t : S) (r : ℕ) (left : List ℕ) : Type 0 where
     pub state : t ≡ through s n xs .0
     pub bytes : Puts 0 (flatten (through s n xs .1)) lent r left
@@ -58,7 +58,7 @@ module _ {S : Type 0} (step : S → List ℕ → S × List ℕ) (size : ℕ) whe
         bytes = rw (more, flatten-last (through s n xs .1) (step t x .1)) (puts-then (p .bytes) h (rw k at w));
       }
 
-  -- a turn where each frame comes to m bytes, and its place in the room is lent
+  -- a turn where each frame gives m bytes, and the part of the buffer for them is passed
   pub through-part : (m : ℕ) {s t : S} {n : ℕ} {xs lent left : List ℕ} → Through s n xs lent t (m * n) left → m * n ≤ length lent
       → {u : S} {y : List ℕ} → length y ≡ m → let f = take (size * n + size - size * n) (drop (size * n) xs) in
       u ≡ step t f .0 → y ≡ step t f .1

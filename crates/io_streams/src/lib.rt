@@ -1,5 +1,5 @@
-// Standard input, for the programs, and what is said on standard error. What a read gives and whether a write
-// succeeds no promise can say.
+// Standard input, for the programs, and what is reported on standard error. No promise can say what a read gives or
+// whether a write succeeds.
 ghost use mathlib.Core.Path.{_≡_};
 ghost use mathlib.Core.Bool.{not, _&&_};
 ghost use mathlib.Core.List.{_++_};
@@ -8,13 +8,14 @@ ghost use lib.Dec.{leb};
 ghost use lib.ListN.{length, take, drop};
 ghost use Rattle.io_streams.specs.Promise.{Gathered};
 
-// How many bytes are there after reading; and whether a read failed, where they are fewer than were wanted.
+// How many bytes the buffer holds after reading; and whether a read failed. A failure is told only where there are
+// fewer bytes than were wanted.
 pub struct Filled {
     pub count: usize,
     pub failed: bool,
 }
 
-// One read: none at the end of the input.
+// One read. It gives no byte at the end of the input.
 fn read(room: &mut [u8]) -> Filled
     ensures { λ r. ⌜ r .count ≤ length (now (room .exit)) ⌝ }
 {
@@ -25,8 +26,8 @@ fn read(room: &mut [u8]) -> Filled
     }
 }
 
-// Reads behind the bytes that are there, as much as each read gives, until there are at least so many, the input ends
-// or a read fails. A pipe gives its bytes in pieces, and what it has given need not wait for more.
+// Reads behind the bytes that are there, as much as each read gives, until there are at least `least` bytes, the input
+// ends or a read fails. A pipe gives its bytes in pieces; a piece that has come does not wait until the buffer is full.
 pub fn gather(there: usize, least: usize, room: &mut [u8]) -> Filled
     requires { ⌜ (there ≤ length (now room)) × (least ≤ length (now room)) ⌝ }
     ensures { λ r. ⌜ Gathered there least (now (room .entry)) r (now (room .exit)) ⌝ }
@@ -48,7 +49,7 @@ pub fn gather(there: usize, least: usize, room: &mut [u8]) -> Filled
     }
 }
 
-// How many frames of so many bytes the bytes make, up to a number that is given.
+// How many whole frames of `size` bytes there are in `count` bytes, but at most `most`.
 pub fn frames(count: usize, size: usize, most: usize) -> usize
     requires { ⌜ 0 < size ⌝ }
     ensures { λ r. ⌜ r ≡ min (count / size) most ⌝ }
@@ -57,7 +58,7 @@ pub fn frames(count: usize, size: usize, most: usize) -> usize
     if n < most { n } else { most }
 }
 
-// Moves what stands from a place on, as far as bytes were read, to the front, and answers how many bytes those are.
+// Moves the bytes from index `from` up to `count` to the front of the buffer, and answers how many they are.
 pub fn keep(from: usize, count: usize, room: &mut [u8]) -> usize
     requires { ⌜ (from ≤ count) × (count ≤ length (now room)) ⌝ }
     ensures is { λ r. ⌜ r ≡ count - from ⌝ }
@@ -71,7 +72,7 @@ pub fn keep(from: usize, count: usize, room: &mut [u8]) -> usize
     rest
 }
 
-// Whether reading went well. Where it failed, that is said on standard error.
+// Whether reading succeeded. A failure is reported on standard error.
 pub fn readable(got: Filled) -> bool
     ensures { λ r. ⌜ r ≡ not (got .failed) ⌝ }
 {
@@ -81,7 +82,7 @@ pub fn readable(got: Filled) -> bool
     !got.failed
 }
 
-// Bytes that are too few for a frame are counted on standard error.
+// Reports on standard error how many bytes there are, where they are too few for a frame.
 fn say_rest(count: usize, size: usize) {
     if 0 < count {
         if count < size {
@@ -91,7 +92,8 @@ fn say_rest(count: usize, size: usize) {
     }
 }
 
-// Whether there is a frame of so many bytes, or more than one. What keeps it from that is said.
+// Whether there is at least one frame of `size` bytes. A failed read, and bytes that are too few, are reported on
+// standard error.
 pub fn whole(got: Filled, size: usize) -> bool
     ensures { λ r. ⌜ r ≡ (not (got .failed) && leb size (got .count)) ⌝ }
 {
@@ -102,7 +104,7 @@ pub fn whole(got: Filled, size: usize) -> bool
     false
 }
 
-// Whether a write went well, as it is handed in. Where it failed, that is said on standard error.
+// Whether a write succeeded: `out`, as it is passed in. A failure is reported on standard error.
 pub fn written(out: bool) -> bool
     ensures { λ r. ⌜ r ≡ out ⌝ }
 {

@@ -1,4 +1,4 @@
--- Bits beside the valid ones: each codeword with a multiple of its field's size added to it.
+-- Stray bits, which are bits beside the valid ones: to each codeword a multiple of 2 to the power of its width is added.
 use Prim.Native.Nat.{ℕ, _+_, _*_, _%_, _^_, _<_, _≤_}
 use mathlib.Core.Path.{_≡_, refl, sym, ap, ap₂, _∙_}
 use mathlib.Core.List.{List, [], _∷_, zipWith, flatten}
@@ -25,7 +25,7 @@ pub stray-length : (k : ℤ) (c : List ℤ) → length c ≡ 76 → length (stra
 unfolding widths LARc-widths sub-widths flatten stray
 stray-length k c h = rw zip-length (omega arith)
 
--- a multiple of m leaves a number's low part: both are raised to the same positive number
+-- adding a multiple of m does not change a number modulo m: a multiple of m makes both equal and not negative
 modulo-moved : (c k : ℤ) (m : ℕ) → 0 < m → modulo (c +ℤ k *ℤ pos m) m ≡ modulo c m
 modulo-moved c k m h =
     let z = c +ℤ k *ℤ pos m in
@@ -36,7 +36,7 @@ modulo-moved c k m h =
     modulo-raised z m (N k + N c) h (omega (arith, s, n, add-is c (k *ℤ pos m)))
     ∙ (ap (λ (x : ℤ). natAbs x % m) e ∙ sym (modulo-raised c m (P k + N c) h (omega (arith, n))))
 
--- what leaves each codeword's low bits leaves those of all
+-- what does not change the low bits of one codeword does not change those of all
 each-low : (g : ℕ → ℤ → ℤ) → ((w : ℕ) (c : ℤ) → low-bits w (g w c) ≡ low-bits w c) → (ws : List ℕ) (cs : List ℤ)
     → zipWith low-bits ws (zipWith g ws cs) ≡ zipWith low-bits ws cs
 unfolding zipWith

@@ -1,4 +1,5 @@
-// What is claimed of both ends, tested on the words themselves; and stray bits to try it with.
+// Tests of what is claimed of both ends, made on the words themselves: two rows of words are the same; the four lags
+// are in range. Also sets bits beside the fields of a frame (stray bits), to try that the decoder does not use them.
 ghost use mathlib.Core.Path.{_≡_};
 ghost use mathlib.Core.Bool.{true};
 ghost use mathlib.Core.Logic.{_↔_};
@@ -47,7 +48,7 @@ pub fn lags(codewords: &[i16; 76]) -> bool
     true
 }
 
-// A codeword with k beside the bits of its field.
+// A codeword with k in the bits above its field.
 fn beside(k: i16, width: u16, c: i16) -> i16
     requires { ⌜ ((width ≤ 7) × (fit width c ≡ true)) × (within (neg 256) (pos 255) k ≡ true) ⌝ }
     ensures { λ r. ⌜ r ≡ c +ℤ k *ℤ pos (2 ^ width) ⌝ }
@@ -55,9 +56,10 @@ fn beside(k: i16, width: u16, c: i16) -> i16
     c + (k << width)
 }
 
-// Each of 76 codewords so.
+// The same for each of 76 codewords.
 fn each_beside(k: i16, codewords: &mut [i16])
-    requires { ⌜ (length (now codewords) ≡ 76) × ((fits (now codewords) ≡ true) × (within (neg 256) (pos 255) k ≡ true)) ⌝ }
+    requires { ⌜ (length (now codewords) ≡ 76)
+        × ((fits (now codewords) ≡ true) × (within (neg 256) (pos 255) k ≡ true)) ⌝ }
     ensures { λ _. ⌜ now (codewords .exit) ≡ stray k (now (codewords .entry)) ⌝ }
 {
     for i in 0..76usize {
@@ -65,7 +67,7 @@ fn each_beside(k: i16, codewords: &mut [i16])
     }
 }
 
-// Sets bits beside the valid ones: k times 2 to the power of its width is added to each codeword.
+// Sets bits beside the valid ones: to each codeword, k times 2 to the power of its field's width is added.
 pub fn strayed(k: i16, codewords: &mut [i16; 76])
     requires { ⌜ (fits (now codewords) ≡ true) × (within (neg 256) (pos 255) k ≡ true) ⌝ }
     ensures { λ _. ⌜ now (codewords .exit) ≡ stray k (now (codewords .entry)) ⌝ }

@@ -1,4 +1,4 @@
--- The number of an ending, case by case: a stop's is 16 more than its place.
+-- The number of an ending, case by case: that of a stop at step n is 16 + n.
 use mathlib.Core.Path.{sym, ap}
 use borrow.Author.Needs.{needs}
 use Rattle.encoder.specs.Promise.{ending}

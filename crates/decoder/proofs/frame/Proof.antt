@@ -117,7 +117,8 @@ returns c =
     let kept = rw (all d, history-after drp nrp cw l (s .pre .1 .1) (s .pre .0)) at (c .before .last .ensures) in
     let larpp = rw (a .before .larc-valid .ensures) at (a .ratios .ensures) in
     let spoken = rw (all d, samples-after drp nrp cw l (s .pre .1 .1) (s .pre .0), msr-before s) at (f .frame .ensures) in
-    whole (memory (s .args .m)) cw _ _ _ _ _ _ kept (res (d .decoded) ∙ lag-after d) larpp (spoken .0) (msr-after f ∙ spoken .1 .0) (spoken .1 .1)
+    let nrp-is = res (d .decoded) ∙ lag-after d in
+    whole (memory (s .args .m)) cw _ _ _ _ _ _ kept nrp-is larpp (spoken .0) (msr-after f ∙ spoken .1 .0) (spoken .1 .1)
 
 pub frame-spec : {M : Type 1} → statement M
 frame-spec =

@@ -1,3 +1,4 @@
+-- Turn i stores word i. The invariant says that the first i words are those of the file, and the rest is as it was.
 use Prim.Native.Nat.{_-_, _≤_}
 use mathlib.Core.Path.{_≡_, sym, _∙_}
 use native.Mathlib.Omega.{arith}
@@ -13,7 +14,8 @@ use Rattle.io_files.proofs.from_bytes.Statement.{statement}
 use Rattle.io_files.proofs.from_bytes.Tie as tie
 
 abbrev Inv-loop : tie.InvT-loop
-Inv-loop bytes words₀ i₀ i-end words i = (i ≤ length words₀) × (length words ≡ length words₀) × (words ≡ filled i (file-words bytes) words₀)
+Inv-loop bytes words₀ i₀ i-end words i =
+    (i ≤ length words₀) × (length words ≡ length words₀) × (words ≡ filled i (file-words bytes) words₀)
 
 abbrev μ-loop : tie.MeasureT-loop
 μ-loop bytes words₀ i₀ i-end words i = length words₀ - i
@@ -34,7 +36,8 @@ returns : tie.Need-returns Inv-loop μ-loop
 returns c =
     let a = c .before .before .before .args in
     let b = a .bytes .now in
-    fill-end (file-words b) (a .words .now) (c .before .loop .i) (c .before .loop .inv .2) (omega (arith, file-words-length b)) (omega arith)
+    let l = c .before .loop in
+    fill-end (file-words b) (a .words .now) (l .i) (l .inv .2) (omega (arith, file-words-length b)) (omega arith)
 
 pub from-bytes-spec : {M : Type 1} → statement M
 from-bytes-spec =

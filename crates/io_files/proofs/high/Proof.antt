@@ -1,3 +1,4 @@
+-- The pattern is below 65536, so its quotient by 256 fits a byte.
 use mathlib.Core.Path.{_≡_}
 use native.Mathlib.Omega.{arith}
 use Rattle.math_integers.specs.Ranges.{back}

@@ -1,3 +1,4 @@
+-- The pattern modulo 256 fits a byte.
 use borrow.Author.Needs.{needs}
 use Rattle.math_integers.specs.Ranges.{back}
 use Rattle.io_files.proofs.low.Statement.{statement}

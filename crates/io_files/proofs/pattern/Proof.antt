@@ -1,3 +1,4 @@
+-- With 65536 added a word is positive and fits 32 bits; modulo 65536 it is the same as before.
 use Prim.Native.Nat.{_%_}
 use mathlib.Core.Path.{_≡_, sym, ap, _∙_}
 use native.Mathlib.Omega.{arith}
@@ -27,7 +28,9 @@ cast-result-2 c =
     rw (raised c) (omega (zar, know (c .fits .w), a, apart z), omega (arith, know (c .fits .w), a, abs-is z))
 
 returns : tie.Need-returns
-returns c = ap (λ (z : ℤ). natAbs z % 65536) (raised c) ∙ sym (modulo-raised (c .args .w) 65536 1 (omega arith) (omega (arith, know (c .fits .w))))
+returns c =
+    ap (λ (z : ℤ). natAbs z % 65536) (raised c)
+    ∙ sym (modulo-raised (c .args .w) 65536 1 (omega arith) (omega (arith, know (c .fits .w))))
 
 pub pattern-spec : {M : Type 1} → statement M
 pattern-spec = tie.close (tie.spec cast-result add-result cast-result-2 returns)

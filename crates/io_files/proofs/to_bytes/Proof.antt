@@ -1,3 +1,4 @@
+-- Turn i stores the two bytes of word i. The invariant says that the first 2 * i bytes are those of the file.
 use Prim.Native.Nat.{_+_, _*_, _-_, _≤_}
 use mathlib.Core.Path.{_≡_}
 use native.Mathlib.Omega.{arith}
@@ -14,20 +15,22 @@ use Rattle.io_files.proofs.to_bytes.Statement.{statement}
 use Rattle.io_files.proofs.to_bytes.Tie as tie
 
 abbrev Inv-loop : tie.InvT-loop
-Inv-loop words bytes₀ i₀ i-end bytes i = (i ≤ length words) × (length bytes ≡ length bytes₀) × (bytes ≡ filled (2 * i) (file-bytes words) bytes₀)
+Inv-loop words bytes₀ i₀ i-end bytes i =
+    (i ≤ length words) × (length bytes ≡ length bytes₀) × (bytes ≡ filled (2 * i) (file-bytes words) bytes₀)
 
 abbrev μ-loop : tie.MeasureT-loop
 μ-loop words bytes₀ i₀ i-end bytes i = length words - i
 
 loop-again : tie.Need-loop-again Inv-loop μ-loop
 loop-again c =
-    let l = c .before .before .before .before .before in
+    let h = c .before .before in
+    let l = h .before .before .before in
     let a = l .before .before .args in
     let w = a .words .now in
     let i = l .loop .i in
     let f : SFits w16 (getD w i (pos 0)) = search needs in
     let (p, q) = bytes-at w i (omega arith) in
-    let low : c .before .before .low .result ≡ getD (file-bytes w) (2 * i) 0 = cc (back f, p) in
+    let low : h .low .result ≡ getD (file-bytes w) (2 * i) 0 = cc (back f, p) in
     let high : c .high .result ≡ getD (file-bytes w) (2 * i + 1) 0 = cc (back f, q) in
     let n = file-bytes-length w in
     let half = fill-next (file-bytes w) (a .bytes .now) (2 * i) (l .loop .inv .2) 0 (omega arith) (omega arith) low in
@@ -41,7 +44,8 @@ returns : tie.Need-returns Inv-loop μ-loop
 returns c =
     let a = c .before .before .before .args in
     let w = a .words .now in
-    fill-end (file-bytes w) (a .bytes .now) (2 * c .before .loop .i) (c .before .loop .inv .2) (omega (arith, file-bytes-length w)) (omega arith)
+    let l = c .before .loop in
+    fill-end (file-bytes w) (a .bytes .now) (2 * l .i) (l .inv .2) (omega (arith, file-bytes-length w)) (omega arith)
 
 pub to-bytes-spec : {M : Type 1} → statement M
 to-bytes-spec =

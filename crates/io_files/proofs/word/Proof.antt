@@ -1,3 +1,4 @@
+-- Below 32768 the number is the word; from 32768 on it is 65536 more than the word, which the law `word-negative` says.
 use Prim.Native.Nat.{ℕ, _+_, _*_}
 use mathlib.Core.Path.{_≡_, sym, ap, _∙_}
 use native.Mathlib.Omega.{arith}

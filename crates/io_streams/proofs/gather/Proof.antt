@@ -1,4 +1,4 @@
--- Each read is behind the bytes that are there, so those stand; each turn that goes on has read at least one.
+-- Each read goes behind the bytes that are there, so those are unchanged; each turn that goes on has read at least one byte.
 use Prim.Native.Nat.{ℕ, _-_, _≤_}
 use mathlib.Core.Path.{_≡_, refl, _∙_}
 use mathlib.Core.Bool.{false≢true}
@@ -30,7 +30,7 @@ module _ (t : tie.After-read Inv-loop μ-loop) where
   abbrev start : tie.Start Inv-loop μ-loop
   start = turn .before .before
 
-  -- the room with what was read
+  -- the buffer with what was read
   abbrev after : List ℕ
   after = put (turn .loop .done) (length (turn .loop .room) - turn .loop .done) (turn .loop .room) (t .read .last .0)
 

@@ -1,4 +1,5 @@
--- The loop fills the front with what stands from a place on. It reads at or behind the place that it writes, where nothing has changed yet.
+-- Turn i copies byte from + i to index i. It reads at or behind the index that it writes, where nothing has changed yet, so the
+-- invariant is that the first i bytes are those from `from` on.
 use Prim.Native.Nat.{_+_, _-_, _≤_, _<_}
 use mathlib.Core.Path.{_≡_, refl, _∙_, sym}
 use native.Mathlib.Omega.{arith}

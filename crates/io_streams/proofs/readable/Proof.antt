@@ -1,3 +1,4 @@
+-- The answer is the negated flag itself, after either way of the test.
 use borrow.Author.Needs.{needs}
 use Rattle.io_streams.proofs.readable.Statement.{statement}
 use Rattle.io_streams.proofs.readable.Tie as tie

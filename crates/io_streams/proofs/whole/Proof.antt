@@ -1,4 +1,4 @@
--- A read that failed and one that went well are the two ways of the test; the rest is what the code answers.
+-- readable answers the negated flag; the test on it has the two ways of the conjunction.
 use mathlib.Core.Path.{_≡_, refl, sym, _∙_}
 use mathlib.Core.Bool.{true, false, not}
 use borrow.Author.Needs.{needs}

@@ -1,3 +1,5 @@
+-- k has at most 9 bits with its sign and a field at most 7, so the shift loses no bit and the sum with a codeword that fits is
+-- still a word.
 use Prim.Native.Nat.{_*_, _^_, _%_, _≤_}
 use mathlib.Core.Path.{_≡_, ap, _∙_}
 use native.Mathlib.Nat.{mul-le-mul}
@@ -25,7 +27,7 @@ module _ (s : tie.Start) where
   abbrev size : ℤ
   size = pos (2 ^ s .args .width)
 
-  -- no field has more than 128 values, so that k times as many is a word, also with the codeword added
+  -- no field has more than 128 values: so k times this number is a word, also with the codeword added
   room : (P k * 2 ^ s .args .width ≤ 255 * 128) × (N k * 2 ^ s .args .width ≤ 256 * 128)
   room =
       let m = pow-mono {i = s .args .width} {j = 7} (s .pre .0 .0) in
@@ -37,7 +39,9 @@ module _ (s : tie.Start) where
 
   sum-fits : SFits w16 (c +ℤ k *ℤ size)
   sum-fits =
-      omega (zar, room, scale-is k (2 ^ s .args .width), add-is c (k *ℤ size), fit-is (s .args .width) c (s .pre .0 .1), pow-mono {i = s .args .width} {j = 7} (s .pre .0 .0))
+      let w = s .args .width in
+      let m = pow-mono {i = w} {j = 7} (s .pre .0 .0) in
+      omega (zar, room, scale-is k (2 ^ w), add-is c (k *ℤ size), fit-is w c (s .pre .0 .1), m)
 
   -- what the shift gives
   shifted : toZ w16 ((ofZ w16 k * 2 ^ s .args .width) % 65536) ≡ k *ℤ size

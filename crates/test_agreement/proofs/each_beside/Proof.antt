@@ -1,3 +1,5 @@
+-- Turn i stores what `stray` says of codeword i. The invariant says that the first i are stored and the rest is as it was, so
+-- a turn reads the codeword as it was at the start.
 use Prim.Native.Nat.{ℕ, _-_, _^_, _<_, _≤_}
 use mathlib.Core.Path.{_≡_, refl}
 use mathlib.Core.Bool.{true}
@@ -21,12 +23,13 @@ use Rattle.test_agreement.proofs.each_beside.Statement.{statement}
 use Rattle.test_agreement.proofs.each_beside.Tie as tie
 
 abbrev Inv-loop : tie.InvT-loop
-Inv-loop k codewords₀ i₀ codewords i = ((i ≤ 76) × (length codewords ≡ 76)) × (codewords ≡ filled i (stray (toZ w16 k) codewords₀) codewords₀)
+Inv-loop k codewords₀ i₀ codewords i =
+    ((i ≤ 76) × (length codewords ≡ 76)) × (codewords ≡ filled i (stray (toZ w16 k) codewords₀) codewords₀)
 
 abbrev μ-loop : tie.MeasureT-loop
 μ-loop k codewords₀ i₀ codewords i = 76 - i
 
--- of codeword i: that it fits its field, and what it comes to
+-- codeword i: it fits its field, and this is what is stored for it
 module _ (s : tie.Start Inv-loop μ-loop) (i : ℕ) (h : i < 76) where
   abbrev first : List ℤ
   first = s .args .codewords .now
@@ -42,9 +45,9 @@ module _ (s : tie.Start Inv-loop μ-loop) (i : ℕ) (h : i < 76) where
   unfolding widths LARc-widths sub-widths flatten stray
   stray-at = let l = s .pre .0 in zip-at _ widths first i 0 (pos 0) (pos 0) (omega arith) (omega arith)
 
--- where a turn stands: what is filled so far, and that it reads the codeword as it was
+-- at the start of a turn: what is stored so far, and that the codeword read is as it was
 module _ (l : tie.At-loop Inv-loop μ-loop) where
-  so-far : l .loop .codewords ≡ filled (l .loop .i) (stray (l .before .args .k) (l .before .args .codewords .now)) (l .before .args .codewords .now)
+  so-far : let a = l .before .args in l .loop .codewords ≡ filled (l .loop .i) (stray (a .k) (a .codewords .now)) (a .codewords .now)
   so-far = rw (back (l .before .fits .k)) at (l .loop .inv .1)
 
   as-many : length (stray (l .before .args .k) (l .before .args .codewords .now)) ≡ 76
@@ -71,8 +74,10 @@ loop-again c =
     let s = l .before in
     let i = l .loop .i in
     let f : SFits w16 (l .loop .codewords at i) = search needs in
+    let old = as-it-was l (omega arith) in
+    let width = c .before .before .field-width .ensures in
     let e : toZ w16 (ofZ w16 (c .beside .result)) ≡ stray (s .args .k) (s .args .codewords .now) at i =
-    cc (back f, back (s .fits .k), as-it-was l (omega arith), c .before .before .field-width .ensures, res (c .beside), c .beside .ensures, stray-at s i (omega arith)) in (
+    cc (back f, back (s .fits .k), old, width, res (c .beside), c .beside .ensures, stray-at s i (omega arith)) in (
       (omega arith, simp length-set (l .loop .inv .0 .1)),
       rw (back (s .fits .k)) (fill-next _ _ i (so-far l) (pos 0) (omega (arith, as-many l)) (omega arith) e),
     )

@@ -1,3 +1,4 @@
+-- nc is a word, so the two comparisons are those of `is-lag`; each return is one outcome of the first.
 use Rattle.math_integers.specs.Ranges.{back}
 use Rattle.test_agreement.proofs.lag.Statement.{statement}
 use Rattle.test_agreement.proofs.lag.Tie as tie

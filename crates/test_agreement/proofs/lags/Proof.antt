@@ -1,3 +1,5 @@
+-- The invariant: the test of the lags from sub-frame n on gives what the test of all gives. A turn tests the lag at 8 + 17 * n,
+-- which is where sub-frame n starts; one that fails decides the whole.
 use Prim.Native.Nat.{ℕ, _+_, _*_, _-_, _<_, _≤_}
 use mathlib.Core.Path.{_≡_, refl, sym, _∙_}
 use mathlib.Core.Bool.{Bool, _&&_}

@@ -1,3 +1,5 @@
+-- The invariant: both rows have the same length, and the same first i words. Words with the same bits are equal, so a turn
+-- that goes on adds one more, and one that stops shows a difference.
 use Prim.Native.Nat.{_-_}
 use mathlib.Core.Path.{_≡_, refl, sym, ap}
 use mathlib.Core.Bool.{true≢false}
@@ -27,7 +29,7 @@ loop-holds c = (c .if1 .left, refl)
 returns : tie.Need-returns Inv-loop μ-loop
 returns c = (λ e. absurd (true≢false (sym e)), λ e. absurd (c .if1 .taken (ap length e)))
 
--- nor are rows that differ at a place
+-- nor are rows that differ at an index
 returns-2 : tie.Need-returns-2 Inv-loop μ-loop
 returns-2 c =
     let k = c .before .before .before .before in

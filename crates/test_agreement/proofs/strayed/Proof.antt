@@ -1,3 +1,4 @@
+-- The frame has 76 codewords by its type, so each_beside may be called; k is a word, so its promise is the one given here.
 use borrow.Author.Needs.{needs}
 use Rattle.math_integers.specs.Ranges.{back}
 use Rattle.test_agreement.proofs.strayed.Statement.{statement}
