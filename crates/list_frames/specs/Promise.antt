@@ -29,7 +29,7 @@ use Rattle.list_lines.specs.Lines.{frame-text, lines-are}
 abbrev pub State : Type 0
 State = ℕ × Coder
 
--- a frame's bytes: the state after it and its lines. Beyond the limit, or from a coder that is not sound, nothing is listed
+-- from a frame's bytes: the state after it and its lines. Past the limit, or from a coder that is not sound, nothing is listed
 unfoldable pub listed : State → List ℕ → State × List ℕ
 listed s bytes =
     let t = coded (s .1) (file-words bytes) in
@@ -39,7 +39,7 @@ listed s bytes =
 unfoldable pub state : Lister → State
 state l = (l .frames, coder (l .encoder))
 
--- of a lister, a frame's bytes and the room lent, the answer, and the room left
+-- the lister, a frame's bytes, the buffer that was passed, the answer, and what is left in the buffer
 pub record Lists (l : Lister) (bytes lent : List ℕ) (a : Listed) (left : List ℕ) : Type 0 where
   pub next : state (a .state) ≡ listed (state l) bytes .0
   pub lines : Puts 0 (listed (state l) bytes .1) lent (a .length) left
@@ -75,11 +75,13 @@ module _ (l : Lister) (bytes lent : List ℕ) where
       record { next = rw e; lines = rw e (puts-none 0 lent) }
 
   -- and where encode refuses the frame
-  module _ (w left : List ℤ) (a : Encoded) (p : Encodes (l .encoder) (file-words bytes) w a left) (hs : length (file-words bytes) ≡ 160) (hw : length w ≡ 76) where
+  module _ (w left : List ℤ) (a : Encoded) (p : Encodes (l .encoder) (file-words bytes) w a left)
+      (hs : length (file-words bytes) ≡ 160) (hw : length w ≡ 76) where
     refused-unsound : (b : Bool) → sound-coder (coder (l .encoder)) ≡ b → ¬ (a .number ≡ 0) → b ≡ false
     refused-unsound false e n = refl
     refused-unsound true e n =
-        absurd (n (number-is (l .encoder) (file-words bytes) w a left p ∙ encode-exactly (coder (l .encoder)) (file-words bytes) w .allows hs hw e))
+        let allowed = encode-exactly (coder (l .encoder)) (file-words bytes) w .allows hs hw e in
+        absurd (n (number-is (l .encoder) (file-words bytes) w a left p ∙ allowed))
 
     pub refused-keeps : ¬ (a .number ≡ 0) → Lists l bytes lent nothing lent
     unfolding state nothing

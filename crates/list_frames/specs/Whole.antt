@@ -1,4 +1,5 @@
--- 01's listing, by the calls that make it: the header, what each whole frame is listed as from home on, the E line.
+-- House rules, 'Listing': the whole listing, by the calls that make it: the header, the lines of each whole frame from home on,
+-- the E line.
 use Prim.Native.Nat.{ℕ, suc, _+_, _*_, _-_, _/_, _≤_, _<_, min}
 use mathlib.Core.Path.{_≡_, refl, ap, _∙_}
 use mathlib.Core.Logic.{⊎-elim}
@@ -42,7 +43,7 @@ file-words-fit (low ∷ high ∷ bytes) =
     let n = low + 256 * high in
     every-cons word (toZ w16 n) (file-words bytes) .1 (word-yes (toZ w16 n) (either-fits n (ltb n 32768) refl), file-words-fit bytes)
 
--- frames listed one after the other, from a sound coder and below the limit, are 01's lines in order
+-- frames listed one after the other, from a sound coder and below the limit, give the definition's lines in order
 pub listed-all : (n : ℕ) (c : Coder) (ps : List (List ℕ)) → sound-coder c ≡ true → n + length ps ≤ most-frames
     → flatten (run listed (n, c) ps .1) ≡ numbered frame-lines (suc n) (run coded c (map file-words ps) .1)
 unfolding run numbered flatten
@@ -53,7 +54,8 @@ listed-all n c (p ∷ ps) e h =
     rw (listed-next (n, c) p (omega arith) e, listed-all (suc n) (t .0) ps s (omega arith)) refl
 
 -- the whole listing
-pub listing-is : (bytes : List ℕ) → listing bytes ≡ header ++ (flatten (run listed (0, home-coder) (parts bytes) .1) ++ E-line (length bytes))
+pub listing-is : (bytes : List ℕ)
+    → listing bytes ≡ header ++ (flatten (run listed (0, home-coder) (parts bytes) .1) ++ E-line (length bytes))
 unfolding listing frames parts
 listing-is bytes =
     let few : length (parts bytes) ≤ most-frames = rw (cut-count, length-replicate) (omega arith) in
@@ -70,7 +72,8 @@ listed-count n c (p ∷ ps) e h =
     ap (λ (x : State × List ℕ). run listed (x .0) ps .0 .0) (listed-next (n, c) p (omega arith) e)
     ∙ (listed-count (suc n) (t .0) ps s (omega arith) ∙ omega arith)
 
--- and ended, of that count and of the bytes that follow the frames, gives the input's E line; beyond the limit one byte is enough
+-- and ended, called with that count and the bytes that follow the frames, gives the input's E line. Past the limit any number
+-- of bytes above 0 gives it
 pub ended-is : (bytes : List ℕ) (rest : ℕ)
     → (length bytes ≤ 320000000 → length (parts bytes) * 320 + rest ≡ length bytes) → (320000000 < length bytes → 0 < rest)
     → E-line (length (parts bytes) * 320 + rest) ≡ E-line (length bytes)

@@ -1,4 +1,5 @@
-// The lister: a frame's bytes in, its lines out, the encoder carried along. What listed promises is in specs/Promise.antt.
+// The lister: a frame's bytes in, its lines out, the encoder kept from frame to frame. What listed promises is in
+// specs/Promise.antt.
 use encoder::Encoder;
 ghost use mathlib.Core.Path.{_≡_};
 ghost use Prim.Native.Nat.{_+_, _*_, _≤_};
@@ -14,7 +15,7 @@ pub struct Lister {
     pub encoder: Encoder,
 }
 
-// The lister after a frame, and how much text the frame's lines are.
+// The lister after a frame, and the length of the text of the frame's lines.
 pub struct Listed {
     pub state: Lister,
     pub length: usize,
@@ -40,7 +41,7 @@ impl Lister {
         }
     }
 
-    // The five lines of the next frame, whose 320 bytes are given.
+    // The five lines of the next frame, whose 320 bytes are passed. Past the limit nothing is listed.
     pub fn listed(self, bytes: &[u8; 320], out: &mut [u8; 1024]) -> Listed
         ensures lists { λ r. ⌜ Lists self (now (bytes .entry)) (now (out .entry)) r (now (out .exit)) ⌝ }
         ensures room { λ r. ⌜ r .length ≤ 1024 ⌝ }
@@ -75,7 +76,8 @@ impl Lister {
         }
     }
 
-    // The E line, where so many bytes follow the frames. Beyond the limit it is enough that one does.
+    // The E line, where `rest` bytes follow the frames that are listed. Past the limit any number above 0 gives the
+    // same line.
     pub fn ended(self, rest: u32, out: &mut [u8; 1024]) -> usize
         ensures { λ r. ⌜ Puts 0 (E-line (self .frames * 320 + rest)) (now (out .entry)) r (now (out .exit)) ⌝ }
         ensures room { λ r. ⌜ r ≤ 1024 ⌝ }

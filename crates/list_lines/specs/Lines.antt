@@ -1,4 +1,4 @@
--- The lines of a frame from what encode answers, and that they are 01's.
+-- The lines of a frame from what encode answers, and that they are those of the definition (`standard`, Listing).
 use Prim.Native.Nat.{ℕ, suc, _/_, _%_, _≤_, _<_}
 use mathlib.Core.Path.{_≡_, refl, sym, _∙_}
 use mathlib.Core.Bool.{true}
@@ -45,7 +45,7 @@ frame-text frame e ms c =
     let s : ℕ → ℕ → List ℕ = λ n k. S-text frame (suc n) (getD ms n none) (take 17 (drop k c)) in
     (((F-text frame e (take 8 c) ++ s 0 8) ++ s 1 25) ++ s 2 42) ++ s 3 59
 
--- ---- they are 01's lines
+-- ---- they are the definition's lines
 
 -- an F line
 F-is : (frame : ℕ) (c : Coded) → F-text frame (some (c .ending)) (c .LARc) ≡ F-line frame c
@@ -61,7 +61,7 @@ S-is frame n s = rw (line-is (text "S") _) (simp append-assoc refl)
 after : (p x q : List ℤ) (a : ℕ) → length p ≡ a → length x ≡ 17 → take 17 (drop a (p ++ (x ++ q))) ≡ x
 after p x q a h l = rw (drop-at p (x ++ q) a h) (take-at x q 17 l)
 
--- and the frame's, of a frame of four sub-frames whose parts have their lengths
+-- and the lines of a frame of four sub-frames whose parts have their lengths
 module _ (n : ℕ) (e : Ending) (l : List ℤ) (a b c d : Subcoded) (hl : length l ≡ 8)
     (ha : length (sub-words (a .codes)) ≡ 17) (hb : length (sub-words (b .codes)) ≡ 17)
     (hc : length (sub-words (c .codes)) ≡ 17) (hd : length (sub-words (d .codes)) ≡ 17) where
@@ -101,7 +101,9 @@ module _ (n : ℕ) (e : Ending) (l : List ℤ) (a b c d : Subcoded) (hl : length
 
   four-lines : frame-text n (some e) (map (λ s. some (mark s)) (of-four .subframes)) all ≡ frame-lines n of-four
   unfolding frame-text frame-lines numbered
-  four-lines = rw (at-l, at-a, at-b, at-c, at-d, F-is n of-four, S-is n 1 a, S-is n 2 b, S-is n 3 c, S-is n 4 d) (simp (append-assoc, append-nil) refl)
+  four-lines =
+      rw (at-l, at-a, at-b, at-c, at-d, F-is n of-four, S-is n 1 a, S-is n 2 b, S-is n 3 c, S-is n 4 d)
+      (simp (append-assoc, append-nil) refl)
 
 -- the 17 codewords of a sub-frame
 17-of : (s : Subcoded) → full (s .codes) ≡ true → length (sub-words (s .codes)) ≡ 17
@@ -116,7 +118,8 @@ by-list n e l (a ∷ b ∷ []) hl h f = absurd (omega arith)
 by-list n e l (a ∷ b ∷ c ∷ []) hl h f = absurd (omega arith)
 by-list n e l (a ∷ b ∷ c ∷ d ∷ s ∷ ss) hl h f = absurd (omega arith)
 by-list n e l (a ∷ b ∷ c ∷ d ∷ []) hl h f =
-    let g : (i : ℕ) → i < 4 → full (getD (a ∷ b ∷ c ∷ d ∷ []) i a .codes) ≡ true = λ i k. every-at (λ (s : Subcoded). full (s .codes)) (a ∷ b ∷ c ∷ d ∷ []) i a f k in
+    let g : (i : ℕ) → i < 4 → full (getD (a ∷ b ∷ c ∷ d ∷ []) i a .codes) ≡ true =
+    λ i k. every-at (λ (s : Subcoded). full (s .codes)) (a ∷ b ∷ c ∷ d ∷ []) i a f k in
     let ha = 17-of a (g 0 (omega arith)) in
     let hb = 17-of b (g 1 (omega arith)) in
     let hc = 17-of c (g 2 (omega arith)) in
@@ -127,7 +130,9 @@ pub lines-are : (n : ℕ) (c : Coded) → FrameSizes (frame c)
     → frame-text n (some (c .ending)) (map (λ s. some (mark s)) (c .subframes)) (words (frame c)) ≡ frame-lines n c
 unfolding frame
 lines-are n c h =
-    by-list n (c .ending) (c .LARc) (c .subframes) (h .LARc) (sym (length-map (c .subframes) (λ (s : Subcoded). s .codes)) ∙ h .subframes) (sym (every-map full (λ (s : Subcoded). s .codes) (c .subframes)) ∙ h .pulses)
+    by-list n (c .ending) (c .LARc) (c .subframes) (h .LARc)
+    (sym (length-map (c .subframes) (λ (s : Subcoded). s .codes)) ∙ h .subframes)
+    (sym (every-map full (λ (s : Subcoded). s .codes) (c .subframes)) ∙ h .pulses)
 
 -- ---- the first line and the last
 
@@ -146,6 +151,7 @@ E-beyond a b h k = E-limit a h ∙ sym (E-limit b k)
 
 -- and up to it
 pub E-end : (bytes : ℕ) → bytes ≤ 320000000
-    → E-line bytes ≡ (((text "E" ++ 9 ∷ decimal (bytes / 320)) ++ (9 ∷ decimal (bytes % 320 / 2))) ++ (9 ∷ decimal (bytes % 2))) ++ text "\tend\n"
+    → E-line bytes
+    ≡ (((text "E" ++ 9 ∷ decimal (bytes / 320)) ++ (9 ∷ decimal (bytes % 320 / 2))) ++ (9 ∷ decimal (bytes % 2))) ++ text "\tend\n"
 unfolding E-line tabbed text
 E-end bytes h = rw (le-ltb 320000000 bytes h, line-is (text "E") _) (simp append-assoc refl)

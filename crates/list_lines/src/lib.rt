@@ -1,4 +1,4 @@
-// 01, 'The lister and its lines': the lines as bytes, from what encode answers.
+// House rules, 'Listing': the lines as bytes, from what encode answers.
 use encoder::Ending;
 use encoder::Mark;
 use encoder::Marks;
@@ -54,10 +54,11 @@ fn led(letter: &[u8], frame: u32, at: usize, out: &mut [u8]) -> usize
     list_text::field(frame, after, out)
 }
 
-// The codewords that end a line.
+// The codewords that end a line, each after a tab, and the line feed.
 fn closed(words: &[i16], at: usize, out: &mut [u8]) -> usize
     requires { ⌜ at + 8 * length (now words) + 1 ≤ length (now out) ⌝ }
-    ensures puts { λ r. ⌜ Puts at (tabbed (map word (now (words .entry))) ++ (10 ∷ [])) (now (out .entry)) r (now (out .exit)) ⌝ }
+    ensures puts { λ r. ⌜ Puts at (tabbed (map word (now (words .entry))) ++ (10 ∷ []))
+        (now (out .entry)) r (now (out .exit)) ⌝ }
     ensures room { λ r. ⌜ r ≤ at + 8 * length (now (words .entry)) + 1 ⌝ }
 {
     let after = list_text::fields(words, at, out);
@@ -67,7 +68,8 @@ fn closed(words: &[i16], at: usize, out: &mut [u8]) -> usize
 // The F line: frame, ending, LARc 1 to 8.
 fn f_line(frame: u32, e: Ending, larc: &[i16], at: usize, out: &mut [u8]) -> usize
     requires { ⌜ ((frame ≤ most-frames) × (length (now larc) ≡ 8)) × (at + 86 ≤ length (now out)) ⌝ }
-    ensures puts { λ r. ⌜ Puts at (F-text frame (ending e) (now (larc .entry))) (now (out .entry)) r (now (out .exit)) ⌝ }
+    ensures puts { λ r. ⌜ Puts at (F-text frame (ending e) (now (larc .entry)))
+        (now (out .entry)) r (now (out .exit)) ⌝ }
     ensures room { λ r. ⌜ r ≤ at + 86 ⌝ }
 {
     let number = led(b"F", frame, at, out);
@@ -78,7 +80,8 @@ fn f_line(frame: u32, e: Ending, larc: &[i16], at: usize, out: &mut [u8]) -> usi
 // The S line: frame, sub-frame, mark, then its 17 codewords.
 fn s_line(frame: u32, n: u32, m: Mark, words: &[i16], at: usize, out: &mut [u8]) -> usize
     requires { ⌜ ((frame ≤ most-frames) × ((n ≤ 4) × (length (now words) ≡ 17))) × (at + 160 ≤ length (now out)) ⌝ }
-    ensures puts { λ r. ⌜ Puts at (S-text frame n (mark m) (now (words .entry))) (now (out .entry)) r (now (out .exit)) ⌝ }
+    ensures puts { λ r. ⌜ Puts at (S-text frame n (mark m) (now (words .entry)))
+        (now (out .entry)) r (now (out .exit)) ⌝ }
     ensures room { λ r. ⌜ r ≤ at + 160 ⌝ }
 {
     let number = led(b"S", frame, at, out);
@@ -90,7 +93,8 @@ fn s_line(frame: u32, n: u32, m: Mark, words: &[i16], at: usize, out: &mut [u8])
 // The five lines of a frame.
 pub fn frame_lines(frame: u32, e: Ending, marks: Marks, c: &[i16], out: &mut [u8]) -> usize
     requires { ⌜ (frame ≤ most-frames) × ((length (now c) ≡ 76) × (length (now out) ≡ 1024)) ⌝ }
-    ensures puts { λ r. ⌜ Puts 0 (frame-text frame (ending e) (told.marks marks) (now (c .entry))) (now (out .entry)) r (now (out .exit)) ⌝ }
+    ensures puts { λ r. ⌜ Puts 0 (frame-text frame (ending e) (told.marks marks) (now (c .entry)))
+        (now (out .entry)) r (now (out .exit)) ⌝ }
     ensures room { λ r. ⌜ r ≤ 1024 ⌝ }
 {
     let first = marks.first;

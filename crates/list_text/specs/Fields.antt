@@ -30,26 +30,31 @@ tabbed-append [] gs = refl
 tabbed-append (f ∷ fs) gs = rw (tabbed-append fs gs, append-assoc)
 
 -- the fields of one word more, a turn of a loop over words
-pub tabbed-next : (ws : List ℤ) (i : ℕ) → i < length ws → tabbed (map word (take (i + 1) ws)) ≡ tabbed (map word (take i ws)) ++ (9 ∷ word (getD ws i (pos 0)))
+pub tabbed-next : (ws : List ℤ) (i : ℕ) → i < length ws
+    → tabbed (map word (take (i + 1) ws)) ≡ tabbed (map word (take i ws)) ++ (9 ∷ word (getD ws i (pos 0)))
 unfolding tabbed
 tabbed-next ws i h =
-    rw (add-one, take-suc ws i (pos 0) h, map-append word (take i ws) (getD ws i (pos 0) ∷ []), tabbed-append, append-nil (word (getD ws i (pos 0)))) refl
+    let w = getD ws i (pos 0) in
+    rw (add-one, take-suc ws i (pos 0) h, map-append word (take i ws) (w ∷ []), tabbed-append, append-nil (word w)) refl
 
 -- as many digits as n needs
 abbrev pub places : ℕ → ℕ
 places n = first (λ k. ltb n (10 ^ k)) n 1
 
--- the last k digits are k
+-- there are k of the last k digits
 pub digits-length : (k n : ℕ) → length (digits k n) ≡ k
 unfolding digits
 digits-length zero n = refl
 digits-length (suc k) n = omega (arith, length-append (digits k (n / 10)) ((48 + n % 10) ∷ []), digits-length k (n / 10))
 
 -- a turn of a loop that stores the digits from the right, whose invariant is `digits e n ≡ digits i rest ++ drop i out`
-pub digits-next : (i rest : ℕ) (out : List ℕ) → i < length out → digits (suc i) rest ++ drop (suc i) out ≡ digits i (rest / 10) ++ drop i (set out i (48 + rest % 10))
+pub digits-next : (i rest : ℕ) (out : List ℕ) → i < length out
+    → digits (suc i) rest ++ drop (suc i) out ≡ digits i (rest / 10) ++ drop i (set out i (48 + rest % 10))
 unfolding digits
 digits-next i rest out h =
-    rw (drop-cons (set out i (48 + rest % 10)) i 0 (omega (arith, length-set out i (48 + rest % 10))), getD-set-same out i (48 + rest % 10) 0 h, drop-set-lt (suc i) out i (48 + rest % 10) (omega arith), append-snoc)
+    let d = 48 + rest % 10 in
+    let split = drop-cons (set out i d) i 0 (omega (arith, length-set out i d)) in
+    rw (split, getD-set-same out i d 0 h, drop-set-lt (suc i) out i d (omega arith), append-snoc)
 
 -- a number has as many digits as it needs
 pub decimal-length : (n : ℕ) → length (decimal n) ≡ places n

@@ -1,4 +1,4 @@
--- Text written into a list from a place on.
+-- Text written into a list from an index on.
 use Prim.Native.Nat.{ℕ, _+_, _≤_}
 use mathlib.Core.Path.{_≡_, refl, sym, ap, _∙_}
 use mathlib.Core.List.{List, [], _++_, append-assoc}
@@ -8,7 +8,7 @@ use lib.Seq.{length-take-le, drop-drop}
 use Rattle.math_lists.specs.Parts.{put, lent-next}
 
 module _ {A : Type 0} where
-  -- xs with t in it from place a on
+  -- xs with t in it from index a on
   abbrev pub written : ℕ → List A → List A → List A
   written a t xs = put a (length t) xs t
 
@@ -21,14 +21,16 @@ module _ {A : Type 0} where
   written-length a t xs h = simp (length-append, length-take, length-drop) (omega arith)
 
   -- a text after another, where that one ends, is both joined
-  pub written-then : (a : ℕ) (t u xs : List A) → a + length t ≤ length xs → written (a + length t) u (written a t xs) ≡ written a (t ++ u) xs
+  pub written-then : (a : ℕ) (t u xs : List A) → a + length t ≤ length xs
+      → written (a + length t) u (written a t xs) ≡ written a (t ++ u) xs
   written-then a t u xs h =
       let l : length (take a xs ++ t) ≡ a + length t = rw (length-append, length-take-le a xs (omega arith)) refl in
+      let joined = append-assoc (take a xs) (t ++ u) (drop (length (t ++ u)) (drop a xs)) in
       ap (λ (ys : List A). written (a + length t) u ys) (sym (append-assoc (take a xs) t (drop (length t) (drop a xs))))
       ∙ lent-next (take a xs ++ t) (drop (length t) (drop a xs)) u (a + length t) (length u) l
-      ∙ rw (drop-drop (length u) (length t) (drop a xs), ← length-append t u, append-assoc (take a xs) t u, append-assoc (take a xs) (t ++ u) (drop (length (t ++ u)) (drop a xs)))
+      ∙ rw (drop-drop (length u) (length t) (drop a xs), ← length-append t u, append-assoc (take a xs) t u, joined)
 
--- what a function that puts text comes to: the place after t, and the list with t in it from a on
+-- what a function that puts text t gives: r, the index after t, and ys, the list xs with t in it from index a on
 pub record Puts {A : Type 0} (a : ℕ) (t xs : List A) (r : ℕ) (ys : List A) : Type 0 where
   pub place : r ≡ a + length t
   pub text : ys ≡ written a t xs

@@ -1,4 +1,4 @@
-// Text in a room that is lent: each function puts its text from a place on and answers the place after it.
+// Text in a buffer that is passed: each function puts its text from index `at` on and answers the index after it.
 ghost use mathlib.Core.Path.{_≡_};
 ghost use mathlib.Core.List.{_∷_, map};
 ghost use Prim.Native.Nat.{_+_, _*_, _≤_, _<_};
@@ -8,6 +8,7 @@ ghost use Rattle.standard.specs.Listing as standard;
 ghost use Rattle.list_text.specs.Written.{Puts};
 ghost use Rattle.list_text.specs.Fields.{places, tabbed};
 
+// Copies t into out, which is as long.
 fn copied(t: &[u8], out: &mut [u8])
     requires { ⌜ length (now t) ≡ length (now out) ⌝ }
     ensures { λ _. ⌜ now (out .exit) ≡ now (t .entry) ⌝ }
@@ -41,7 +42,7 @@ fn width(n: u32) -> usize
     k
 }
 
-// The last digits of a number, as many as there is room for, from the right.
+// The last digits of a number, as many as out holds, stored from the right.
 fn digits(n: u32, out: &mut [u8])
     ensures { λ _. ⌜ now (out .exit) ≡ standard.digits (length (now (out .entry))) n ⌝ }
 {
@@ -75,7 +76,7 @@ pub fn field(n: u32, at: usize, out: &mut [u8]) -> usize
     decimal(n, after, out)
 }
 
-// The size of a word. The least word has no counterpart, so it is made on 32 bits.
+// The absolute value of a word. That of -32768 is no word, so it is computed on 32 bits.
 fn size(w: i16) -> u32
     ensures { λ r. ⌜ r ≡ natAbs w ⌝ }
 {
@@ -83,10 +84,11 @@ fn size(w: i16) -> u32
     if n < 0 { (0 - n) as u32 } else { n as u32 }
 }
 
-// A field for each word.
+// A field for each word: a tab and its absolute value.
 pub fn fields(words: &[i16], at: usize, out: &mut [u8]) -> usize
     requires { ⌜ at + 8 * length (now words) ≤ length (now out) ⌝ }
-    ensures puts { λ r. ⌜ Puts at (tabbed (map standard.word (now (words .entry)))) (now (out .entry)) r (now (out .exit)) ⌝ }
+    ensures puts { λ r. ⌜ Puts at (tabbed (map standard.word (now (words .entry))))
+        (now (out .entry)) r (now (out .exit)) ⌝ }
     ensures room { λ r. ⌜ r ≤ at + 8 * length (now (words .entry)) ⌝ }
 {
     let mut end = at;

@@ -1,3 +1,4 @@
+-- The fields, and then the line feed: the law `puts-then` joins the two texts.
 use native.Mathlib.Omega.{arith}
 use borrow.Author.Needs.{needs}
 use Rattle.list_text.specs.Written.{puts-length, puts-then}

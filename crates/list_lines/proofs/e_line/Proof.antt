@@ -1,3 +1,5 @@
+-- Beyond the limit the line is the one text of the law `E-limit`. Up to it the law `E-end` gives the line as five texts; each
+-- is put behind the one before (`puts-then`), and together they have at most 30 bytes.
 use Prim.Native.Nat.{_≤_}
 use native.Mathlib.Omega.{arith}
 use borrow.Author.Needs.{needs}
@@ -26,7 +28,8 @@ returns-2 c =
     let p₂ = puts-then p₁ (omega (arith, p₀ .place, t₁ .field .ensures .1)) (t₂ .field2 .ensures .0) in
     let p₃ = puts-then p₂ (omega (arith, p₀ .place, t₁ .field .ensures .1, t₂ .field2 .ensures .1)) (t₃ .field3 .ensures .0) in
     let r₃ : t₃ .field3 .result ≤ 25 = omega (arith, p₀ .place, t₁ .field .ensures .1, t₂ .field2 .ensures .1, t₃ .field3 .ensures .1) in
-    rw (E-end (s .args .bytes) (omega arith)) (puts-then p₃ (omega (arith, r₃)) (c .text3 .ensures), omega (arith, r₃, c .text3 .ensures .place))
+    rw (E-end (s .args .bytes) (omega arith))
+    (puts-then p₃ (omega (arith, r₃)) (c .text3 .ensures), omega (arith, r₃, c .text3 .ensures .place))
 
 pub e-line-spec : {M : Type 1} → statement M
 e-line-spec =

@@ -1,3 +1,5 @@
+-- Each arm of the match tells which ending was passed, and puts the text of that ending. A stop is a text and then its number
+-- (`puts-then`).
 use Prim.Native.Nat.{_<_}
 use native.Mathlib.Omega.{arith}
 use borrow.Author.Needs.{needs}
@@ -19,7 +21,8 @@ decimal-requires c κs =
     let t = c .before .before .before in
     let s = t .before .before .before .before .before .before .before in
     let b : t .before .before .before .before .e .given .0 .0 < 256 = search needs in
-    (omega arith, omega (arith, s .pre, t .text2 .ensures .place, puts-length (t .text2 .ensures) (omega (arith, s .pre, t .text2 .ensures .place))))
+    let l = puts-length (t .text2 .ensures) (omega (arith, s .pre, t .text2 .ensures .place)) in
+    (omega arith, omega (arith, s .pre, t .text2 .ensures .place, l))
 
 text-requires-3 : tie.Need-text-requires-3
 text-requires-3 c κs = omega (arith, c .before .before .before .before .before .pre)

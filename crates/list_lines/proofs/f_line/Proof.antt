@@ -1,3 +1,5 @@
+-- Three texts, each put behind the one before (`puts-then`): the letter and the number, the ending, the codewords. A bound on
+-- the end of each shows that the next one fits.
 use Prim.Native.Nat.{_+_, _≤_}
 use mathlib.Core.Path.{_≡_}
 use mathlib.Core.List.{_∷_, _++_}
@@ -16,7 +18,8 @@ module _ (t : tie.After-led) where
   abbrev start : tie.Start
   start = t .before .before .before .before
 
-  led-put : Puts (start .args .at) (text "F" ++ 9 ∷ decimal (start .args .frame)) (start .args .out .now) (t .led .result) (t .led .last .1 .1 .1 .0)
+  led-put : Puts (start .args .at) (text "F" ++ 9 ∷ decimal (start .args .frame)) (start .args .out .now)
+      (t .led .result) (t .led .last .1 .1 .1 .0)
   unfolding text
   led-put = t .led .ensures .0
 
@@ -34,8 +37,8 @@ module _ (t : tie.After-ending-field) where
   abbrev begun : tie.Start
   begun = start led
 
-  how-put : Puts (begun .args .at) ((text "F" ++ 9 ∷ decimal (begun .args .frame)) ++ ending-field (ending (begun .args .e))) (begun .args .out .now)
-      (t .ending-field .result) (t .ending-field .last .1 .1 .0)
+  how-put : Puts (begun .args .at) ((text "F" ++ 9 ∷ decimal (begun .args .frame)) ++ ending-field (ending (begun .args .e)))
+      (begun .args .out .now) (t .ending-field .result) (t .ending-field .last .1 .1 .0)
   how-put = puts-then (led-put led) (led-within led) (t .ending-field .ensures .0)
 
   how-room : t .ending-field .result ≤ begun .args .at + 21

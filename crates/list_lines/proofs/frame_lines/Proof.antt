@@ -1,3 +1,5 @@
+-- Five lines, each put behind the one before (`puts-then`). An F line has at most 86 bytes and an S line at most 160, so that
+-- all five fit in 1024.
 use Prim.Native.Nat.{ℕ, suc, _+_, _≤_}
 use mathlib.Core.Path.{_≡_}
 use mathlib.Core.Option.{none}
@@ -60,7 +62,8 @@ module _ (t : tie.After-s-line2) where
   abbrev start-2 : tie.Start
   start-2 = start-1 prev-2
 
-  put-2 : Puts 0 ((F-of start-2 ++ S-of start-2 0 8) ++ S-of start-2 1 25) (start-2 .args .out .now) (t .s-line2 .result) (t .s-line2 .last .1 .1 .1 .1 .1 .0)
+  put-2 : Puts 0 ((F-of start-2 ++ S-of start-2 0 8) ++ S-of start-2 1 25) (start-2 .args .out .now)
+      (t .s-line2 .result) (t .s-line2 .last .1 .1 .1 .1 .1 .0)
   unfolding marks
   put-2 = puts-then (put-1 prev-2) (within-1 prev-2) (t .s-line2 .ensures .0)
 
@@ -78,7 +81,8 @@ module _ (t : tie.After-s-line3) where
   abbrev start-3 : tie.Start
   start-3 = start-2 prev-3
 
-  put-3 : Puts 0 (((F-of start-3 ++ S-of start-3 0 8) ++ S-of start-3 1 25) ++ S-of start-3 2 42) (start-3 .args .out .now) (t .s-line3 .result) (t .s-line3 .last .1 .1 .1 .1 .1 .0)
+  put-3 : Puts 0 (((F-of start-3 ++ S-of start-3 0 8) ++ S-of start-3 1 25) ++ S-of start-3 2 42) (start-3 .args .out .now)
+      (t .s-line3 .result) (t .s-line3 .last .1 .1 .1 .1 .1 .0)
   unfolding marks
   put-3 = puts-then (put-2 prev-3) (within-2 prev-3) (t .s-line3 .ensures .0)
 
@@ -97,7 +101,8 @@ s-line-requires : tie.Need-s-line-requires
 s-line-requires c κs =
     let t = c .before .before .before .before in
     let s = start t in
-    ((s .pre .0, (omega arith, part s 8 (omega arith))), omega (arith, t .f-line .ensures .1, s .pre .1 .1, puts-length (put-0 t) (within-0 t)))
+    let l = puts-length (put-0 t) (within-0 t) in
+    ((s .pre .0, (omega arith, part s 8 (omega arith))), omega (arith, t .f-line .ensures .1, s .pre .1 .1, l))
 
 s-line-requires-2 : tie.Need-s-line-requires-2
 s-line-requires-2 c κs =

@@ -1,3 +1,4 @@
+-- The law `header-is` computes the header's text; it is the bytes that are put.
 use native.Mathlib.Omega.{arith}
 use borrow.Author.Needs.{needs}
 use Rattle.standard.specs.Listing.{text}

@@ -1,3 +1,4 @@
+-- The letter, and then the frame's number as a field: the law `puts-then` joins the two texts.
 use native.Mathlib.Omega.{arith}
 use borrow.Author.Needs.{needs}
 use Rattle.list_text.specs.Written.{puts-length, puts-then}
@@ -12,7 +13,8 @@ field-requires c κs =
     let t = c .before .before .before in
     let s = t .before .before .before .before in
     let p = t .text .ensures in
-    (omega (arith, s .pre .0 .0), omega (arith, s .pre .0 .1, s .pre .1, p .place, puts-length p (omega (arith, s .pre .0 .1, s .pre .1, p .place))))
+    let l = puts-length p (omega (arith, s .pre .0 .1, s .pre .1, p .place)) in
+    (omega (arith, s .pre .0 .0), omega (arith, s .pre .0 .1, s .pre .1, p .place, l))
 
 returns : tie.Need-returns
 returns c =

@@ -1,3 +1,4 @@
+-- Each arm of the match tells which mark was passed, and puts the text of that mark.
 use Rattle.list_lines.proofs.mark_field.Statement.{statement}
 use Rattle.list_lines.proofs.mark_field.Tie as tie
 use borrow.Author.Needs.{needs}

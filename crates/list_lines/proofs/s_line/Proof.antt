@@ -1,3 +1,5 @@
+-- Four texts, each put behind the one before (`puts-then`): the letter and the number, the sub-frame, the mark, the codewords.
+-- A bound on the end of each shows that the next one fits.
 use Prim.Native.Nat.{_+_, _≤_}
 use mathlib.Core.Path.{_≡_}
 use mathlib.Core.List.{_∷_, _++_}
@@ -16,7 +18,8 @@ module _ (t : tie.After-led) where
   abbrev start : tie.Start
   start = t .before .before .before .before
 
-  led-put : Puts (start .args .at) (text "S" ++ 9 ∷ decimal (start .args .frame)) (start .args .out .now) (t .led .result) (t .led .last .1 .1 .1 .0)
+  led-put : Puts (start .args .at) (text "S" ++ 9 ∷ decimal (start .args .frame)) (start .args .out .now)
+      (t .led .result) (t .led .last .1 .1 .1 .0)
   unfolding text
   led-put = t .led .ensures .0
 
@@ -34,8 +37,8 @@ module _ (t : tie.After-field) where
   abbrev begun : tie.Start
   begun = start led
 
-  sub-put : Puts (begun .args .at) ((text "S" ++ 9 ∷ decimal (begun .args .frame)) ++ (9 ∷ decimal (begun .args .n))) (begun .args .out .now)
-      (t .field .result) (t .field .last .1 .1 .0)
+  sub-put : Puts (begun .args .at) ((text "S" ++ 9 ∷ decimal (begun .args .frame)) ++ (9 ∷ decimal (begun .args .n)))
+      (begun .args .out .now) (t .field .result) (t .field .last .1 .1 .0)
   sub-put = puts-then (led-put led) (led-within led) (t .field .ensures .0)
 
   sub-room : t .field .result ≤ begun .args .at + 17
@@ -53,8 +56,8 @@ module _ (t : tie.After-mark-field) where
   from = begun subbed
 
   how-put : Puts (from .args .at)
-      (((text "S" ++ 9 ∷ decimal (from .args .frame)) ++ (9 ∷ decimal (from .args .n))) ++ mark-field (mark (from .args .m))) (from .args .out .now)
-      (t .mark-field .result) (t .mark-field .last .1 .1 .0)
+      (((text "S" ++ 9 ∷ decimal (from .args .frame)) ++ (9 ∷ decimal (from .args .n))) ++ mark-field (mark (from .args .m)))
+      (from .args .out .now) (t .mark-field .result) (t .mark-field .last .1 .1 .0)
   how-put = puts-then (sub-put subbed) (sub-within subbed) (t .mark-field .ensures .0)
 
   how-room : t .mark-field .result ≤ from .args .at + 23

@@ -1,3 +1,4 @@
+-- Turn i copies byte i. The invariant says that the first i bytes are those of t and the rest is as it was.
 use Prim.Native.Nat.{_-_, _≤_}
 use mathlib.Core.Path.{_≡_, refl}
 use native.Mathlib.Omega.{arith}

@@ -1,3 +1,4 @@
+-- width gives the number of digits, at most seven; digits fills a part of out that is as long.
 use Prim.Native.Nat.{ℕ, _+_, _-_, _≤_}
 use mathlib.Core.Path.{_≡_, sym, ap, ap₂, _∙_}
 use mathlib.Core.List.{List}
@@ -21,7 +22,7 @@ module _ (t : tie.After-width) where
   width-most : t .width .result ≤ 7
   width-most = omega (arith, t .width .ensures, places-most (s .args .n) (s .pre .0))
 
-  -- the part that is lent
+  -- the part that is passed
   part-length : let a = s .args .at in length (take ((a + t .width .result) - a) (drop a (s .args .out .now))) ≡ places (s .args .n)
   part-length = simp (length-take, length-drop) (omega (arith, t .width .ensures, width-most, s .pre .1))
 

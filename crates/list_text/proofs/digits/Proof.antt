@@ -1,3 +1,5 @@
+-- The digits are stored from the right. The invariant: the digits of n are the last i digits of `rest`, and then what is
+-- stored from i on.
 use Prim.Native.Nat.{ℕ, suc, _+_, _-_, _≤_}
 use mathlib.Core.Path.{_≡_, refl, sym, ap, _∙_}
 use mathlib.Core.List.{_++_, append-nil}

@@ -1,3 +1,4 @@
+-- The tab, and then the number after it: the law `puts-then` joins the two texts.
 use native.Mathlib.Omega.{arith}
 use borrow.Author.Needs.{needs}
 use Rattle.list_text.specs.Written.{puts-then}

@@ -1,3 +1,5 @@
+-- The invariant: the text of the first i words is put from `at` on, in at most 8 bytes for each. A turn puts the field of
+-- word i behind it (`puts-then`).
 use Prim.Native.Nat.{ℕ, _*_, _+_, _-_, _≤_}
 use mathlib.Core.Path.{_≡_, sym, ap, _∙_, subst}
 use mathlib.Core.List.{List, _∷_, map}
@@ -27,7 +29,7 @@ loop-holds : tie.Need-loop-holds Inv-loop μ-loop
 unfolding tabbed
 loop-holds c = let s = c .before in (search needs, omega arith, puts-none (s .args .at) (s .args .out .now))
 
--- where the loop stands
+-- at the start of a turn
 module _ (b : tie.At-loop Inv-loop μ-loop) where
   abbrev s : tie.Start Inv-loop μ-loop
   s = b .before .before
@@ -39,7 +41,7 @@ module _ (b : tie.At-loop Inv-loop μ-loop) where
   within : b .loop .end ≤ length (s .args .out .now)
   within = omega (arith, s .pre, b .loop .inv .1)
 
-  -- the room is as long as it was
+  -- the buffer is as long as it was
   long : length (b .loop .out) ≡ length (s .args .out .now)
   long = puts-length (b .loop .inv .2) within
 
@@ -58,7 +60,8 @@ loop-again c =
     let fits : SFits w16 (word b) = sfits-of (z .before .size-arg .given) in
     let size : z .size .result ≡ natAbs (word b) = z .size .ensures ∙ ap natAbs (back fits) in
     let q : Puts (b .loop .end) (9 ∷ standard.word (word b)) (b .loop .out) (f .field .result) (f .field .last .1 .1 .0) =
-    subst (λ (n : ℕ). Puts (b .loop .end) (9 ∷ standard.decimal n) (b .loop .out) (f .field .result) (f .field .last .1 .1 .0)) size (f .field .ensures .0) in (
+    subst (λ (n : ℕ). Puts (b .loop .end) (9 ∷ standard.decimal n) (b .loop .out) (f .field .result) (f .field .last .1 .1 .0))
+    size (f .field .ensures .0) in (
       omega arith,
       omega (arith, b .loop .inv .1, f .field .ensures .1),
       subst (λ (t : List ℕ). Puts (s b .args .at) t (s b .args .out .now) (f .field .result) (f .field .last .1 .1 .0))
@@ -71,7 +74,10 @@ returns c =
     let b = c .before in
     let (l, m, p) = b .loop .inv in
     let all = take-all (b .loop .i) (s b .args .words .now) (omega arith) in
-    (subst (λ (ws : List ℤ). Puts (s b .args .at) (tabbed (map standard.word ws)) (s b .args .out .now) (b .loop .end) (b .loop .out)) all p, omega arith)
+    let put =
+    subst (λ (ws : List ℤ). Puts (s b .args .at) (tabbed (map standard.word ws)) (s b .args .out .now) (b .loop .end) (b .loop .out))
+    all p in
+    (put, omega arith)
 
 pub fields-spec : {M : Type 1} → statement M
 fields-spec =

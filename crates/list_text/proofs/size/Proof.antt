@@ -1,3 +1,4 @@
+-- Where n is below 0, 0 - n fits 32 bits because n is a word, and is its absolute value; otherwise n itself is.
 use mathlib.Core.Path.{_≡_, ap}
 use native.Mathlib.Omega.{arith}
 use lib.Dec.{T}

@@ -1,3 +1,4 @@
+-- The part of out that is passed has the length of t; copied fills it with t.
 use Prim.Native.Nat.{ℕ, _+_, _-_}
 use mathlib.Core.Path.{_≡_, refl, ap₂}
 use mathlib.Core.List.{List}

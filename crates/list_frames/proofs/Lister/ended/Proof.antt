@@ -1,3 +1,4 @@
+-- Past the limit every E line is the same (`E-beyond`), so a number of bytes that fits 32 bits stands for any other.
 use Prim.Native.Nat.{_+_, _*_}
 use native.Mathlib.Omega.{arith}
 use borrow.Author.Needs.{needs}
@@ -12,7 +13,8 @@ returns c =
 
 returns-2 : tie.Need-returns-2
 returns-2 c =
-    let s = c .before .before .before .before .before in
+    let t = c .before .before in
+    let s = t .before .before .before in
     rw (E-beyond (s .args .self .frames * 320 + s .args .rest) 320000001 (omega arith) (omega arith)) (c .e-line2 .ensures)
 
 pub ended-spec : {M : Type 1} → statement M

@@ -1,3 +1,4 @@
+-- The count is 0, and the encoder is the one that Encoder::home promises.
 use mathlib.Core.Path.{ap}
 use borrow.Author.Needs.{needs}
 use Rattle.standard.specs.Coder.{Coder}
