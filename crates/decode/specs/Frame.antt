@@ -1,4 +1,4 @@
--- What the program makes of a frame.
+-- What the program does with a frame: the decoder after it, and its samples in the output.
 use mathlib.Core.List.{List}
 use Prim.Native.Nat.{ℕ}
 use lib.IntN.{pos}
@@ -7,7 +7,7 @@ use Rattle.standard.specs.Files.{file-words, file-bytes}
 use Rattle.standard.specs.Decoder.{Decoder}
 use Rattle.standard.specs.Answers as answers
 
--- the decoder after a frame of codewords, and the frame's samples, both as 001's annex A3 has them in a file
+-- the decoder after a frame of codewords, and the frame's samples; codewords and samples as annex A3 has them in a file
 unfoldable pub decoded : Decoder → List ℕ → Decoder × List ℕ
 decoded m bytes =
     let a = answers.decode m (file-words bytes) (replicate 160 (pos 0)) in

@@ -1,4 +1,4 @@
-// Decodes a file of codewords to a file of samples, both as 001's annex A3 has them, from home: SEQxx.COD to SEQxx.OUT.
+// Decodes a file of codewords to a file of samples, both in the form of annex A3, from home: SEQxx.COD to SEQxx.OUT.
 use decoder::Decoder;
 ghost use mathlib.Core.Path.{_≡_};
 ghost use Prim.Native.Nat.{_*_, _≤_, _<_};
@@ -28,7 +28,7 @@ fn frame(m: Decoder, bytes: &[u8], out: &mut [u8]) -> Decoder
     heard.state
 }
 
-// So many frames, one behind the other in either room.
+// Codes `frames` frames, one behind the other in both buffers.
 fn code(m: Decoder, frames: usize, bytes: &[u8], out: &mut [u8]) -> Decoder
     requires { ⌜ (152 * frames ≤ length (now bytes)) × (320 * frames ≤ length (now out)) ⌝ }
     ensures { λ r. ⌜ Through decoded 152 (memory m) frames (now (bytes .entry)) (now (out .entry))
@@ -43,7 +43,7 @@ fn code(m: Decoder, frames: usize, bytes: &[u8], out: &mut [u8]) -> Decoder
     state
 }
 
-// What has come is coded and written; what makes no frame yet is kept for the next turn.
+// Codes and writes the frames that have come. Bytes that make no frame yet are kept for the next turn.
 fn turn(m: Decoder, there: usize, room: &mut [u8], out: &mut [u8]) -> After
     requires { ⌜ (there < 152) × (length (now room) ≡ 9728) × (length (now out) ≡ 20480) ⌝ }
     ensures { λ r. ⌜ r .there < 152 ⌝ }
@@ -67,8 +67,8 @@ fn turn(m: Decoder, there: usize, room: &mut [u8], out: &mut [u8]) -> After
     }
 }
 
-// Nothing says that an input ends, so the turns are counted down. Each codes a frame or more, so they are 2.7 years of
-// speech at least.
+// The program must be shown to end, and nothing says that an input ends. So the turns are counted down. Each codes at
+// least one frame: together that is at least 2.7 years of speech.
 fn main() {
     let mut room = [0; 9728];
     let mut out = [0; 20480];

@@ -1,4 +1,4 @@
--- What the program makes of a frame.
+-- What the program does with a frame: the decoder after it, and its A-law octets in the output.
 use mathlib.Core.List.{List}
 use Prim.Native.Nat.{ℕ}
 use lib.ListN.{replicate}
@@ -6,7 +6,7 @@ use Rattle.standard.specs.Files.{file-words}
 use Rattle.standard.specs.Decoder.{Decoder}
 use Rattle.standard.specs.Answers as answers
 
--- the decoder after a frame of codewords, as 001's annex A3 has them in a file, and the frame's A-law octets
+-- the decoder after a frame of codewords, as annex A3 has them in a file, and the frame's A-law octets
 unfoldable pub decoded : Decoder → List ℕ → Decoder × List ℕ
 decoded m bytes =
     let a = answers.decode-alaw m (file-words bytes) (replicate 160 0) in

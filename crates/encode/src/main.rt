@@ -1,4 +1,4 @@
-// Encodes a file of samples to a file of codewords, both as 001's annex A3 has them, from home: SEQxx.INP to SEQxx.COD.
+// Encodes a file of samples to a file of codewords, both in the form of annex A3, from home: SEQxx.INP to SEQxx.COD.
 use encoder::Encoder;
 ghost use mathlib.Core.Path.{_≡_};
 ghost use Prim.Native.Nat.{_*_, _≤_, _<_};
@@ -28,7 +28,7 @@ fn frame(e: Encoder, bytes: &[u8], out: &mut [u8]) -> Encoder
     coded.state
 }
 
-// So many frames, one behind the other in either room.
+// Codes `frames` frames, one behind the other in both buffers.
 fn code(e: Encoder, frames: usize, bytes: &[u8], out: &mut [u8]) -> Encoder
     requires { ⌜ (320 * frames ≤ length (now bytes)) × (152 * frames ≤ length (now out)) ⌝ }
     ensures { λ r. ⌜ Through encoded 320 (coder e) frames (now (bytes .entry)) (now (out .entry))
@@ -43,7 +43,7 @@ fn code(e: Encoder, frames: usize, bytes: &[u8], out: &mut [u8]) -> Encoder
     state
 }
 
-// What has come is coded and written; what makes no frame yet is kept for the next turn.
+// Codes and writes the frames that have come. Bytes that make no frame yet are kept for the next turn.
 fn turn(e: Encoder, there: usize, room: &mut [u8], out: &mut [u8]) -> After
     requires { ⌜ (there < 320) × (length (now room) ≡ 20480) × (length (now out) ≡ 9728) ⌝ }
     ensures { λ r. ⌜ r .there < 320 ⌝ }
@@ -67,8 +67,8 @@ fn turn(e: Encoder, there: usize, room: &mut [u8], out: &mut [u8]) -> After
     }
 }
 
-// Nothing says that an input ends, so the turns are counted down. Each codes a frame or more, so they are 2.7 years of
-// speech at least.
+// The program must be shown to end, and nothing says that an input ends. So the turns are counted down. Each codes at
+// least one frame: together that is at least 2.7 years of speech.
 fn main() {
     let mut room = [0; 20480];
     let mut out = [0; 9728];

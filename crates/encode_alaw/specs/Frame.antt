@@ -1,4 +1,4 @@
--- What the program makes of a frame.
+-- What the program does with a frame: the coder after it, and its codewords in the output.
 use mathlib.Core.List.{List}
 use Prim.Native.Nat.{ℕ}
 use lib.IntN.{pos}
@@ -8,7 +8,7 @@ use Rattle.standard.specs.Alaw.{alaw-samples}
 use Rattle.standard.specs.Coder.{Coder}
 use Rattle.standard.specs.Answers as answers
 
--- the coder after a frame of A-law octets, and the frame's codewords as 001's annex A3 has them in a file
+-- the coder after a frame of A-law octets, and the frame's codewords as annex A3 has them in a file
 unfoldable pub encoded : Coder → List ℕ → Coder × List ℕ
 encoded c octets =
     let a = answers.encode c (alaw-samples octets) (replicate 76 (pos 0)) in

@@ -1,4 +1,4 @@
-// Encodes a file of A-law octets to a file of codewords, as 001's annex A3 has them, from home.
+// Encodes a file of A-law octets to a file of codewords in the form of annex A3, from home.
 use encoder::Encoder;
 ghost use mathlib.Core.Path.{_≡_};
 ghost use Prim.Native.Nat.{_*_, _≤_, _<_};
@@ -26,7 +26,7 @@ fn frame(e: Encoder, octets: &[u8], out: &mut [u8]) -> Encoder
     coded.state
 }
 
-// So many frames, one behind the other in either room.
+// Codes `frames` frames, one behind the other in both buffers.
 fn code(e: Encoder, frames: usize, octets: &[u8], out: &mut [u8]) -> Encoder
     requires { ⌜ (160 * frames ≤ length (now octets)) × (152 * frames ≤ length (now out)) ⌝ }
     ensures { λ r. ⌜ Through encoded 160 (coder e) frames (now (octets .entry)) (now (out .entry))
@@ -41,7 +41,7 @@ fn code(e: Encoder, frames: usize, octets: &[u8], out: &mut [u8]) -> Encoder
     state
 }
 
-// What has come is coded and written; what makes no frame yet is kept for the next turn.
+// Codes and writes the frames that have come. Bytes that make no frame yet are kept for the next turn.
 fn turn(e: Encoder, there: usize, room: &mut [u8], out: &mut [u8]) -> After
     requires { ⌜ (there < 160) × (length (now room) ≡ 10240) × (length (now out) ≡ 9728) ⌝ }
     ensures { λ r. ⌜ r .there < 160 ⌝ }
@@ -65,8 +65,8 @@ fn turn(e: Encoder, there: usize, room: &mut [u8], out: &mut [u8]) -> After
     }
 }
 
-// Nothing says that an input ends, so the turns are counted down. Each codes a frame or more, so they are 2.7 years of
-// speech at least.
+// The program must be shown to end, and nothing says that an input ends. So the turns are counted down. Each codes at
+// least one frame: together that is at least 2.7 years of speech.
 fn main() {
     let mut room = [0; 10240];
     let mut out = [0; 9728];

@@ -1,5 +1,5 @@
-// Expands a file of A-law octets to a file of samples, low byte first, as encode and lister read them. Every octet is a sample, so nothing
-// is left over.
+// Expands a file of A-law octets to a file of samples, low byte first, as encode and lister read them. Every octet is a
+// sample, so nothing is left over.
 ghost use mathlib.Core.Path.{_≡_};
 ghost use Prim.Native.Nat.{_*_};
 ghost use lib.ListN.{length};
@@ -15,7 +15,7 @@ fn expand(octets: &[u8], samples: &mut [i16], out: &mut [u8])
     io_files::to_bytes(samples, out);
 }
 
-// What has come is expanded and written; whether there may be more.
+// Expands and writes the octets that have come; says whether there may be more.
 fn turn(octets: &mut [u8], samples: &mut [i16], out: &mut [u8]) -> bool
     requires { ⌜ (length (now octets) ≡ 10240) × (length (now samples) ≡ 10240) × (length (now out) ≡ 20480) ⌝ }
 {
@@ -29,7 +29,7 @@ fn turn(octets: &mut [u8], samples: &mut [i16], out: &mut [u8]) -> bool
     io_streams::written(io::write_all(1, &out[0..end]))
 }
 
-// 160 turns, each of at least an octet; whether there may be more.
+// 160 turns, each of at least one octet; says whether there may be more.
 fn turns(octets: &mut [u8], samples: &mut [i16], out: &mut [u8]) -> bool
     requires { ⌜ (length (now octets) ≡ 10240) × (length (now samples) ≡ 10240) × (length (now out) ≡ 20480) ⌝ }
 {
@@ -43,7 +43,8 @@ fn turns(octets: &mut [u8], samples: &mut [i16], out: &mut [u8]) -> bool
     true
 }
 
-// Nothing says that an input ends, so the turns are counted down, from a number that is 2.7 years of speech.
+// The program must be shown to end, and nothing says that an input ends. So the turns are counted down, from a number
+// that is 2.7 years of speech.
 fn main() {
     let mut octets = [0; 10240];
     let mut samples = [0; 10240];

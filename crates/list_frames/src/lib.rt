@@ -41,7 +41,8 @@ impl Lister {
         }
     }
 
-    // The five lines of the next frame, whose 320 bytes are passed. Past the limit nothing is listed.
+    // The five lines of the next frame, whose 320 bytes are passed. Past the limit, or where encode refuses, nothing is
+    // listed.
     pub fn listed(self, bytes: &[u8; 320], out: &mut [u8; 1024]) -> Listed
         ensures lists { λ r. ⌜ Lists self (now (bytes .entry)) (now (out .entry)) r (now (out .exit)) ⌝ }
         ensures room { λ r. ⌜ r .length ≤ 1024 ⌝ }

@@ -1,4 +1,4 @@
-// 01's lister: samples from standard input, the lines of their frames to standard output.
+// House rules, 'Listing': the lister. Samples from standard input, the lines of their frames to standard output.
 use list_frames::Lister;
 ghost use mathlib.Core.Path.{_≡_};
 ghost use Prim.Native.Nat.{_+_, _-_, _*_, _≤_};
@@ -7,7 +7,7 @@ ghost use Rattle.list_text.specs.Written.{Puts};
 ghost use Rattle.list_frames.specs.Promise.{state, listed};
 ghost use Rattle.io_streams.specs.Frames.{Through};
 
-// The lister after frames, and where their text ends.
+// The lister after some frames, and the index where their text ends.
 struct Text {
     state: Lister,
     end: usize,
@@ -20,14 +20,14 @@ struct After {
     more: bool,
 }
 
-// The text in front of a room.
+// Writes the first `length` bytes of a text, and says whether it could.
 fn print(text: [u8; 1024], length: usize) -> bool
     requires { ⌜ length ≤ 1024 ⌝ }
 {
     io_streams::written(io::write_all(1, &text[..length]))
 }
 
-// The E line, after so many bytes that are not listed.
+// Writes the E line, where `rest` bytes are not listed.
 fn end(l: Lister, rest: usize)
     requires { ⌜ rest ≤ 20480 ⌝ }
 {
@@ -36,7 +36,7 @@ fn end(l: Lister, rest: usize)
     print(text, length);
 }
 
-// A frame's lines, from a place on.
+// A frame's lines, from index `at` on.
 fn frame(l: Lister, bytes: &[u8], at: usize, out: &mut [u8]) -> Text
     requires { ⌜ (length (now bytes) ≡ 320) × (at + 1024 ≤ length (now out)) ⌝ }
     ensures state { λ r. ⌜ state (r .state) ≡ listed (state l) (now (bytes .entry)) .0 ⌝ }
@@ -56,7 +56,7 @@ fn frame(l: Lister, bytes: &[u8], at: usize, out: &mut [u8]) -> Text
     }
 }
 
-// The lines of so many frames, one behind the other.
+// The lines of `frames` frames, one behind the other.
 fn list(l: Lister, frames: usize, bytes: &[u8], out: &mut [u8]) -> Text
     requires { ⌜ (320 * frames ≤ length (now bytes)) × (1024 * frames ≤ length (now out)) ⌝ }
     ensures lists { λ r. ⌜ Through listed 320 (state l) frames (now (bytes .entry)) (now (out .entry))
@@ -87,8 +87,8 @@ fn left(frames: u32) -> usize
     (1000000 - frames) as usize
 }
 
-// What has come is listed and written; what makes no frame yet is kept for the next turn. Where no whole frame is left,
-// or the limit is reached, the last line.
+// Lists the frames that have come and writes their lines. Bytes that make no frame yet are kept for the next turn.
+// Where no whole frame is left, or the limit is reached, writes the last line.
 fn turn(l: Lister, there: usize, room: &mut [u8], out: &mut [u8]) -> After
     requires { ⌜ (there ≤ 20480) × (length (now room) ≡ 20480) × (length (now out) ≡ 65536) ⌝ }
     ensures { λ r. ⌜ r .there ≤ 20480 ⌝ }
@@ -118,6 +118,8 @@ fn turn(l: Lister, there: usize, room: &mut [u8], out: &mut [u8]) -> After
     }
 }
 
+// A turn that is not the last lists at least one frame, so 1000001 turns are enough for 1000000 frames and the last
+// line.
 fn main() {
     let mut text = [0; 1024];
     let length = list_lines::header(&mut text);

@@ -1,6 +1,6 @@
-// An outside check of 4.1 and of A-law: puts arguments at and around the ends of the range through every operation, and every code and every
-// value of 13 bits through A-law, and prints the results. The stored output comes from outside/operations.py, never from here. Each
-// function that prints says whether it could; if not, all stops.
+// An outside check of 4.1 and of A-law: puts arguments at and around the ends of the range through every operation, and
+// every code and every value of 13 bits through A-law, and prints the results. The stored output comes from
+// outside/operations.py, never from here. Each function that prints says whether it could; if not, all stops.
 
 const WORDS: [i16; 20] = [
     -32768,
@@ -100,7 +100,7 @@ enum Table {
     Compress,
 }
 
-// The arguments, each by its place; after the last comes the first again.
+// The arguments by index. The index counts modulo 20: after the last comes the first again.
 fn word(i: usize) -> i16 {
     let at = i % 20;
     WORDS[at]
@@ -116,7 +116,7 @@ fn count(i: usize) -> i16 {
     COUNTS[at]
 }
 
-// Place j of row i: of the codes, 16 rows of 16, and of the values of 13 bits, 256 rows of 32.
+// Entry j of row i: the codes are 16 rows of 16, the values of 13 bits are 256 rows of 32.
 fn code(i: usize, j: usize) -> u8 {
     (16 * (i % 16) + j % 16) as u8
 }
@@ -125,7 +125,8 @@ fn value(i: usize, j: usize) -> i16 {
     op_words::sub(op_words::word_of(32 * (i % 256) + j % 32), 4096)
 }
 
-// The size of a number. The least number has no counterpart, so one is added before the sign is turned and again after.
+// The absolute value of a number. That of the least number does not fit 32 bits. So 1 is added before the sign is
+// changed, and again after it, on 64 bits.
 fn size(n: i32) -> u64 {
     if n < 0 {
         (0 - (n + 1)) as u64 + 1
@@ -166,7 +167,7 @@ fn print_norm(n: i32) -> bool {
     }
 }
 
-// The list at its argument i.
+// The list's entry for its argument i.
 fn print_item(list: List, i: usize) -> bool {
     let a = word(i);
     let x = long(i);
@@ -203,8 +204,8 @@ fn first(table: Table, i: usize) -> i32 {
     }
 }
 
-// The table at its first argument i and its second argument j: words a and b, long words x and y, or a shift by n; or A-law at place j of
-// row i.
+// The table at its first argument i and its second argument j: words a and b, long words x and y, or a shift by n; or
+// A-law at entry j of row i.
 fn cell(table: Table, i: usize, j: usize) -> i32 {
     let a = word(i);
     let b = word(j);

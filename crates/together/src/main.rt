@@ -1,5 +1,6 @@
-// Both ends back to back on a recording, each from home. After each frame it tests what is claimed of them, on two frames of three with
-// stray bits set on the way, and prints a line: the frame, stray or plain, the loudest sample of the history, and the verdict.
+// Both ends back to back on a recording, each from home. On two frames of three, stray bits are set on the way from one
+// end to the other. After each frame the program tests what is claimed of both ends and prints a line: the frame, stray
+// or plain, the loudest sample of the history, and the verdict.
 use decoder::Decoded;
 use decoder::Decoder;
 use encoder::Encoder;
@@ -18,7 +19,8 @@ struct Pair {
     decoder: Decoder,
 }
 
-// What can be wrong with a frame: a call refused it, a codeword does not fit, a lag is out of range, or the two ends differ.
+// What can be wrong with a frame: a call refused it, a codeword does not fit, a lag is out of range, or the two ends
+// differ in the history or in the ratios.
 struct Faults {
     refused: bool,
     field: bool,
@@ -37,21 +39,21 @@ enum Verdict {
     Together,
 }
 
-// What a frame came to.
+// The outcome of a frame.
 struct Outcome {
     pair: Pair,
     stray: bool,
     verdict: Verdict,
 }
 
-// Both ends after so many frames, and how many of them were not together.
+// Both ends after a number of frames, and how many of these frames had a fault.
 struct Tally {
     pair: Pair,
     frames: u32,
     apart: u32,
 }
 
-// The same, and where the frames' lines end.
+// The same, and the index where the frames' lines end.
 struct Lines {
     tally: Tally,
     end: usize,
@@ -64,8 +66,13 @@ struct After {
     more: bool,
 }
 
+// The first fault, in the order of the struct.
 fn judged(f: Faults) -> Verdict
-    ensures { λ r. ⌜ r ≡ cond (f .refused) Verdict.Refused (cond (f .field) Verdict.Field (cond (f .lag) Verdict.Lag (cond (f .history) Verdict.History (cond (f .ratios) Verdict.Ratios Verdict.Together)))) ⌝ }
+    ensures { λ r. ⌜ r ≡ cond (f .refused) Verdict.Refused
+        (cond (f .field) Verdict.Field
+        (cond (f .lag) Verdict.Lag
+        (cond (f .history) Verdict.History
+        (cond (f .ratios) Verdict.Ratios Verdict.Together)))) ⌝ }
 {
     if f.refused {
         Verdict::Refused
@@ -103,6 +110,7 @@ fn disturbed(n: u32, codewords: &mut [i16; 76]) -> bool
     false
 }
 
+// Whether both ends have the same history.
 fn same_history(p: Pair) -> bool
     ensures { λ r. ⌜ (r ≡ true) ↔ (p .encoder .dp ≡ p .decoder .drp) ⌝ }
 {
@@ -113,6 +121,7 @@ fn same_history(p: Pair) -> bool
     test_agreement::same(&dp, &drp)
 }
 
+// Whether both ends have the same log-area ratios.
 fn same_ratios(p: Pair) -> bool
     ensures { λ r. ⌜ (r ≡ true) ↔ (p .encoder .larpp ≡ p .decoder .larpp) ⌝ }
 {
@@ -123,13 +132,13 @@ fn same_ratios(p: Pair) -> bool
     test_agreement::same(&sent, &received)
 }
 
-// The samples themselves are not looked at.
+// The frame decoded. The samples themselves are not looked at.
 fn heard(m: Decoder, codewords: [i16; 76]) -> Decoded {
     let mut samples = [0; 160];
     m.decode(&codewords, &mut samples)
 }
 
-// A frame from one end to the other.
+// A frame from one end to the other, with its verdict.
 fn handed_over(n: u32, before: Pair, samples: [i16; 160]) -> Outcome
     requires { ⌜ n ≤ 1000000 ⌝ }
 {
@@ -188,7 +197,7 @@ fn stray_field(stray: bool, at: usize, out: &mut [u8]) -> usize
     }
 }
 
-// A frame's line, from a place on.
+// A frame's line, from index `at` on.
 fn line(n: u32, o: Outcome, at: usize, out: &mut [u8]) -> usize
     requires { ⌜ (n ≤ 1000000) × (at + 64 ≤ length (now out)) ⌝ }
     ensures { λ r. ⌜ r ≤ at + 64 ⌝ }
@@ -205,7 +214,7 @@ fn line(n: u32, o: Outcome, at: usize, out: &mut [u8]) -> usize
     list_text::text(b"\n", end, out)
 }
 
-// The last line: the frames, and how many of them were not together.
+// The last line: the frames, and how many of them had a fault.
 fn last_line(frames: u32, apart: u32, out: &mut [u8; 64]) -> usize
     requires { ⌜ (frames ≤ 1000000) × (apart ≤ frames) ⌝ }
     ensures { λ r. ⌜ r ≤ 64 ⌝ }
@@ -216,13 +225,14 @@ fn last_line(frames: u32, apart: u32, out: &mut [u8; 64]) -> usize
     list_text::text(b"\n", end, out)
 }
 
-// The text in front of a room.
+// Writes the first `length` bytes of a text, and says whether it could.
 fn print(text: [u8; 64], length: usize) -> bool
     requires { ⌜ length ≤ 64 ⌝ }
 {
     io_streams::written(io::write_all(1, &text[..length]))
 }
 
+// Writes the last line.
 fn end(frames: u32, apart: u32)
     requires { ⌜ (frames ≤ 1000000) × (apart ≤ frames) ⌝ }
 {
@@ -231,7 +241,7 @@ fn end(frames: u32, apart: u32)
     print(text, length);
 }
 
-// One more, where a frame is not together.
+// The count of frames with a fault: one more, where this verdict is a fault.
 fn counted(v: Verdict, apart: u32) -> u32
     requires { ⌜ apart < 1000000 ⌝ }
     ensures { λ r. ⌜ r ≤ apart + 1 ⌝ }
@@ -242,7 +252,7 @@ fn counted(v: Verdict, apart: u32) -> u32
     }
 }
 
-// The next frame handed over, its line from a place on.
+// The next frame from one end to the other, and its line from index `at` on.
 fn frame(t: Tally, bytes: &[u8], at: usize, out: &mut [u8]) -> Lines
     requires counted { ⌜ (t .frames < 1000000) × (t .apart ≤ t .frames) ⌝ }
     requires room { ⌜ (length (now bytes) ≡ 320) × (at + 64 ≤ length (now out)) ⌝ }
@@ -267,7 +277,7 @@ fn frame(t: Tally, bytes: &[u8], at: usize, out: &mut [u8]) -> Lines
     }
 }
 
-// So many frames, their lines one behind the other.
+// `frames` frames, their lines one behind the other.
 fn list(t: Tally, frames: usize, bytes: &[u8], out: &mut [u8]) -> Lines
     requires counted { ⌜ (t .frames + frames ≤ 1000000) × (t .apart ≤ t .frames) ⌝ }
     requires room { ⌜ (320 * frames ≤ length (now bytes)) × (64 * frames ≤ length (now out)) ⌝ }
@@ -288,8 +298,8 @@ fn list(t: Tally, frames: usize, bytes: &[u8], out: &mut [u8]) -> Lines
     }
 }
 
-// What has come is handed over and its lines are written; what makes no frame yet is kept for the next turn. Where no
-// whole frame is left, the last line.
+// Takes the frames that have come from one end to the other and writes their lines. Bytes that make no frame yet are
+// kept for the next turn. Where no whole frame is left, writes the last line.
 fn turn(t: Tally, there: usize, room: &mut [u8], out: &mut [u8]) -> After
     requires counted { ⌜ (t .frames < 1000000) × (t .apart ≤ t .frames) ⌝ }
     requires room { ⌜ (there ≤ 20480) × (length (now room) ≡ 20480) × (length (now out) ≡ 4096) ⌝ }
@@ -320,7 +330,8 @@ fn turn(t: Tally, there: usize, room: &mut [u8], out: &mut [u8]) -> After
     }
 }
 
-// Nothing says that an input ends, so the frames are counted, up to a number that is 5 hours of speech.
+// The program must be shown to end, and nothing says that an input ends. So the frames are counted, up to a number that
+// is 5 hours of speech.
 fn main() {
     let mut room = [0; 20480];
     let mut out = [0; 4096];

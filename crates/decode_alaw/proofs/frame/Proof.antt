@@ -1,4 +1,4 @@
--- The codewords are the words of the bytes, and the octets that decode_alaw answers fill the room.
+-- The codewords are the words of the bytes, and the octets that decode_alaw answers fill the buffer.
 use mathlib.Core.Path.{_≡_}
 use native.Mathlib.Omega.{arith}
 use lib.ListN.{length}
@@ -8,7 +8,7 @@ use Rattle.decode_alaw.specs.Frame.{decoded}
 use Rattle.decode_alaw.proofs.frame.Statement.{statement}
 use Rattle.decode_alaw.proofs.frame.Tie as tie
 
--- the octets are as many as the room takes
+-- the octets are as many as the buffer takes
 as-many : (t : tie.After-decode-alaw) → length (t .decode-alaw .last .1 .1 .0) ≡ 160
 as-many t = search needs
 

@@ -1,4 +1,5 @@
--- Each frame is taken from its own place and put behind those before it, from the state that they have left.
+-- Turn i takes frame i and puts what it gives behind the frames before it. The invariant is `Through`: the state and the bytes
+-- are those of the first i frames.
 use Prim.Native.Nat.{_-_, _*_, _≤_}
 use mathlib.Core.Path.{_≡_}
 use native.Mathlib.Omega.{arith}

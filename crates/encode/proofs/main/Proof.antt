@@ -1,4 +1,4 @@
--- The rooms keep their lengths, what is kept is less than a frame, and the turns are counted down, so the program ends.
+-- The buffers keep their lengths, what is kept is less than a frame, and the turns are counted down, so the program ends.
 use Prim.Native.Nat.{_<_}
 use mathlib.Core.Path.{_≡_}
 use lib.ListN.{length}

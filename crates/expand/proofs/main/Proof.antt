@@ -1,4 +1,4 @@
--- The rooms keep their lengths, and the turns are counted down, so the program ends.
+-- The buffers keep their lengths, and the turns are counted down, so the program ends.
 use mathlib.Core.Path.{_≡_}
 use lib.ListN.{length}
 use borrow.Author.Needs.{needs}

@@ -1,4 +1,4 @@
--- The rooms keep their lengths, and the turns are counted down.
+-- The buffers keep their lengths, and the turns are counted down.
 use mathlib.Core.Path.{_≡_}
 use lib.ListN.{length}
 use borrow.Author.Needs.{needs}

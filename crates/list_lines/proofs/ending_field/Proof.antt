@@ -10,22 +10,39 @@ use Rattle.list_lines.specs.Lines.{ending-field}
 use Rattle.list_lines.proofs.ending_field.Statement.{statement}
 use Rattle.list_lines.proofs.ending_field.Tie as tie
 
+-- ---- points of the code: the start, from where each arm is told its ending
+
+abbrev silent : tie.After-enum-told2 → tie.Start
+silent c = c .before .before .before
+
+abbrev stopped : tie.After-e → tie.Start
+stopped c = c .before .before .before
+
+abbrev complete : tie.After-enum-told3 → tie.Start
+complete c = c .before .before .before
+
+-- where a stop is told its number, from after its text
+abbrev number : tie.After-text2 → tie.After-e
+number t = t .before .before .before .before
+
+-- ---- the arms
+
 text-requires : tie.Need-text-requires
-text-requires c κs = omega (arith, c .before .before .before .before .before .pre)
+text-requires c κs = omega (arith, silent (c .before .before) .pre)
 
 text-requires-2 : tie.Need-text-requires-2
-text-requires-2 c κs = omega (arith, c .before .before .before .before .before .before .pre)
+text-requires-2 c κs = omega (arith, stopped (c .before .before .before) .pre)
 
 decimal-requires : tie.Need-decimal-requires
 decimal-requires c κs =
     let t = c .before .before .before in
-    let s = t .before .before .before .before .before .before .before in
-    let b : t .before .before .before .before .e .given .0 .0 < 256 = search needs in
+    let s = stopped (number t) in
+    let b : number t .e .given .0 .0 < 256 = search needs in
     let l = puts-length (t .text2 .ensures) (omega (arith, s .pre, t .text2 .ensures .place)) in
     (omega arith, omega (arith, s .pre, t .text2 .ensures .place, l))
 
 text-requires-3 : tie.Need-text-requires-3
-text-requires-3 c κs = omega (arith, c .before .before .before .before .before .pre)
+text-requires-3 c κs = omega (arith, complete (c .before .before) .pre)
 
 returns : tie.Need-returns
 unfolding ending ending-field
@@ -44,9 +61,9 @@ unfolding ending ending-field ending-text text
 returns-3 c =
     let q = c .before .before in
     let t = q .before .before .before .before in
-    let s = t .before .before .before .before .before .before .before in
+    let s = stopped (number t) in
     let p = puts-then (t .text2 .ensures) (omega (arith, s .pre, t .text2 .ensures .place)) (q .decimal .ensures .0) in
-    rw (t .before .before .before .before .e .given .1) (p, omega (arith, q .decimal .ensures .1, t .text2 .ensures .place))
+    rw (number t .e .given .1) (p, omega (arith, q .decimal .ensures .1, t .text2 .ensures .place))
 
 returns-4 : tie.Need-returns-4
 unfolding ending ending-field ending-text text

@@ -8,11 +8,21 @@ use Rattle.standard.specs.Listing.{text, mark-text}
 use Rattle.list_text.specs.Written.{puts-none}
 use Rattle.list_lines.specs.Lines.{mark-field}
 
+-- ---- points of the code: the start, from where each arm is told its mark
+
+abbrev rule : tie.After-enum-told2 → tie.Start
+rule c = c .before .before .before
+
+abbrev found : tie.After-enum-told3 → tie.Start
+found c = c .before .before .before
+
+-- ---- the arms
+
 text-requires : tie.Need-text-requires
-text-requires c κs = omega (arith, c .before .before .before .before .before .pre)
+text-requires c κs = omega (arith, rule (c .before .before) .pre)
 
 text-requires-2 : tie.Need-text-requires-2
-text-requires-2 c κs = omega (arith, c .before .before .before .before .before .pre)
+text-requires-2 c κs = omega (arith, found (c .before .before) .pre)
 
 returns : tie.Need-returns
 unfolding mark mark-field

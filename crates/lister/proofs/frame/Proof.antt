@@ -1,4 +1,4 @@
--- The frame's bytes are copied, listed in a room of their own, and the lines copied to their place.
+-- The frame's bytes are copied, its lines are made in a buffer of their own, and these are copied to index `at`.
 use Prim.Native.Nat.{ℕ, _-_}
 use mathlib.Core.Path.{_≡_, _∙_}
 use mathlib.Core.List.{List}
@@ -13,13 +13,13 @@ use Rattle.io_streams.specs.Frames.{puts-all}
 use Rattle.lister.proofs.frame.Statement.{statement}
 use Rattle.lister.proofs.frame.Tie as tie
 
--- what is put from the front is what the room begins with
+-- what is put from the front is what the buffer begins with
 puts-front : (t xs : List ℕ) {r : ℕ} {ys : List ℕ} → Puts 0 t xs r ys → take r ys ≡ t
 puts-front t xs p =
     let r : _ ≡ length t = p .place ∙ omega arith in
     rw (r, p .text) (take-append-seam t (drop (length t) xs))
 
--- what listed promises of the frame
+-- what listed promises for the frame
 module _ (t : tie.After-listed) where
   abbrev copied : tie.After-text
   copied = t .before .before .before .before

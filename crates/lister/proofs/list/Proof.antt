@@ -1,4 +1,5 @@
--- Each frame is taken from its own place and its lines are put behind those before it, by the lister that they have left.
+-- Turn i takes frame i and puts its lines behind those before it. The invariant is `Through`: the lister and the text are those
+-- of the first i frames.
 use Prim.Native.Nat.{_-_, _*_, _≤_}
 use mathlib.Core.Path.{_≡_}
 use native.Mathlib.Omega.{arith}

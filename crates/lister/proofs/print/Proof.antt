@@ -1,3 +1,4 @@
+-- The text has 1024 bytes, so its first `length` bytes are there: `length` is at most 1024.
 use native.Mathlib.Omega.{arith}
 use lib.ListN.{length, length-take}
 use mathlib.Core.Path.{_≡_}
@@ -12,4 +13,11 @@ slice-aggregate-write-all : tie.Need-slice-aggregate-write-all
 slice-aggregate-write-all c = rw length-take (omega (arith, room (c .before), c .before .pre))
 
 pub print-spec : {M : Type 1} → statement M
-print-spec = tie.close (tie.spec (λ c. search needs) slice-aggregate-write-all (λ c κs. search needs) (λ c κs. search needs) (λ c. search needs))
+print-spec =
+    tie.close
+    (tie.spec
+    (λ c. search needs)
+    slice-aggregate-write-all
+    (λ c κs. search needs)
+    (λ c κs. search needs)
+    (λ c. search needs))

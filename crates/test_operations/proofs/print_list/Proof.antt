@@ -1,4 +1,4 @@
--- The loop over the arguments ends.
+-- The loop over the arguments ends: i counts up to 20.
 use Prim.Native.Nat.{_-_}
 use borrow.Author.Needs.{needs}
 use Rattle.test_operations.proofs.print_list.Statement.{statement}

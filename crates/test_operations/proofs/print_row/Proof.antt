@@ -1,4 +1,4 @@
--- The loop over the places of a row ends.
+-- The loop over the entries of a row ends: j counts up to the width.
 use Prim.Native.Nat.{_-_}
 use borrow.Author.Needs.{needs}
 use Rattle.test_operations.proofs.print_row.Statement.{statement}

@@ -1,4 +1,4 @@
--- The loop over the rows ends.
+-- The loop over the rows ends: i counts up to their number.
 use Prim.Native.Nat.{_-_}
 use borrow.Author.Needs.{needs}
 use Rattle.test_operations.proofs.print_rows.Statement.{statement}

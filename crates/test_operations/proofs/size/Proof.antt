@@ -1,3 +1,5 @@
+-- A negative n is at least -2147483648, so n + 1 and 0 - (n + 1) fit 32 bits, and the last is not negative. The 1 that is then
+-- added fits 64 bits.
 use lib.IntN.{pos, _+ℤ_}
 use mir.Syntax.{w32}
 use borrow.Author.Needs.{needs}
@@ -13,18 +15,20 @@ raised c =
 
 turned : tie.Need-sub-result
 turned c =
-    let m = mem w32 (c .before .args .n) +ℤ pos 1 in
-    omega (zar, know (c .before .fits .n), know (raised c), add-is (mem w32 (c .before .args .n)) (pos 1), minus-is (pos 0) (mem w32 m))
+    let n = mem w32 (c .before .args .n) in
+    omega (zar, know (c .before .fits .n), know (raised c), add-is n (pos 1), minus-is (pos 0) (mem w32 (n +ℤ pos 1)))
 
 below : tie.Need-cast-result
 below c =
-    let m = mem w32 (c .before .args .n) +ℤ pos 1 in
-    omega (zar, know (c .before .fits .n), know (raised c), know (turned c), add-is (mem w32 (c .before .args .n)) (pos 1), minus-is (pos 0) (mem w32 m))
+    let n = mem w32 (c .before .args .n) in
+    let m = minus-is (pos 0) (mem w32 (n +ℤ pos 1)) in
+    omega (zar, know (c .before .fits .n), know (raised c), know (turned c), add-is n (pos 1), m)
 
 bounded : tie.Need-add-result-2
 bounded c =
-    let m = mem w32 (c .before .args .n) +ℤ pos 1 in
-    omega (zar, know (c .before .fits .n), know (raised c), know (turned c), add-is (mem w32 (c .before .args .n)) (pos 1), minus-is (pos 0) (mem w32 m))
+    let n = mem w32 (c .before .args .n) in
+    let m = minus-is (pos 0) (mem w32 (n +ℤ pos 1)) in
+    omega (zar, know (c .before .fits .n), know (raised c), know (turned c), add-is n (pos 1), m)
 
 above : tie.Need-cast-result-2
 above c = omega (zar, know (c .before .fits .n))

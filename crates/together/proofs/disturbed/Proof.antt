@@ -1,3 +1,4 @@
+-- The test before the call shows that the codewords fit, and stray_bits promises its range: what strayed asks for.
 use mathlib.Core.Path.{sym, _∙_}
 use borrow.Author.Needs.{needs}
 use Rattle.math_integers.specs.Ranges.{res}

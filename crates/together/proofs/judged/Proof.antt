@@ -1,3 +1,4 @@
+-- Each return is one outcome of the chain of tests; the tests before it, taken or left, decide the chain of the definition.
 use Rattle.together.proofs.judged.Statement.{statement}
 use Rattle.together.proofs.judged.Tie as tie
 

@@ -1,4 +1,5 @@
--- Each frame is taken from its own place and its line is put behind those before it; frames and lines are counted.
+-- Turn i takes frame i and puts its line behind those before it. The invariant counts: i frames more, at most 64 bytes for each
+-- line, no more faults than frames.
 use Prim.Native.Nat.{_+_, _-_, _*_, _≤_}
 use mathlib.Core.Path.{_≡_}
 use lib.ListN.{length}

@@ -1,4 +1,4 @@
--- The rooms keep their lengths, and each turn that goes on hands over a frame at least, so the program ends.
+-- The buffers keep their lengths, and each turn that goes on takes at least one frame, so the program ends.
 use Prim.Native.Nat.{_-_, _≤_}
 use mathlib.Core.Path.{_≡_}
 use native.Mathlib.Omega.{arith}

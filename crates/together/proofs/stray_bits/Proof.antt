@@ -1,3 +1,4 @@
+-- A number below 512, less 256, is from -256 to 255, so it fits a word.
 use Prim.Native.Nat.{ℕ, _*_, _%_}
 use mathlib.Core.Path.{_≡_}
 use native.Mathlib.Omega.{arith}
@@ -28,8 +29,9 @@ sub-result c = rw (less c) (less-fits c)
 
 returns : tie.Need-returns
 returns c =
+    let z = pos (low c) -ℤ pos 256 in
     let m = minus-is (pos (low c)) (pos 256) in
-    rw (less c, back (less-fits c)) (range-yes 256 255 (pos (low c) -ℤ pos 256) (omega (arith, m, apart (pos (low c) -ℤ pos 256))) (omega (arith, m)))
+    rw (less c, back (less-fits c)) (range-yes 256 255 z (omega (arith, m, apart z)) (omega (arith, m)))
 
 pub stray-bits-spec : {M : Type 1} → statement M
 stray-bits-spec = tie.close (tie.spec (λ c. search needs) (λ c. search needs) sub-result returns)

@@ -1,4 +1,5 @@
--- Where there is a frame at least one is handed over, and no more than the limit leaves room for; what is kept fits its room.
+-- Where there is a whole frame, at least one is taken, and no more than the limit allows. So the count grows in each turn that
+-- goes on. What is kept fits its buffer.
 use Prim.Native.Nat.{ℕ, _≤_, _<_}
 use mathlib.Core.Path.{_≡_, sym, _∙_}
 use mathlib.Core.Bool.{Bool, true, false, not, _&&_, false≢true}
@@ -9,7 +10,7 @@ use borrow.Author.Tests.{leb-true, not-false}
 use Rattle.together.proofs.turn.Statement.{statement}
 use Rattle.together.proofs.turn.Tie as tie
 
--- what `whole` says of a frame that is there
+-- what `whole` says where it answers true
 some-frame : (failed : Bool) (size count : ℕ) → (not failed && leb size count) ≡ true → size ≤ count
 some-frame false size count e = leb-true size count e
 some-frame true size count e = absurd (false≢true e)
@@ -37,7 +38,7 @@ returns c = stops (c .before .before .before .before)
 returns-2 : tie.Need-returns-2
 returns-2 c = stops (c .before .before .before)
 
--- no more frames than the room holds
+-- no more frames than the buffer holds
 few : (t : tie.After-frames) → t .frames .result ≤ 64
 few t =
     let w = t .before .before .before in
