@@ -9,7 +9,7 @@ use Rattle.encoder.specs.Promise.{coder, ending, marks}
 use Rattle.boundary.specs.declared.EncodeAnswer.{EncodeAnswer}
 use Rattle.boundary.specs.Promise.{encode-answer, Encodes}
 
--- of encode and encode_alaw
+-- for encode and encode_alaw
 pub encode-crosses : {e : Encoder} {samples lent : List ℤ} {a : Encoded} {left : List ℤ} {b : EncodeAnswer}
     → encoder.Encodes e samples lent a left
     → b ≡ encode-answer (a .number) (coder (a .state)) (ending (a .ending)) (marks (a .marks)) → Encodes e samples lent b left

@@ -42,7 +42,7 @@ ending-back (some (lpc.stopped n)) =
     let place : 13 + n - 13 ≡ n = omega arith in
     ap ending-of three ∙ ap (λ k. some (lpc.stopped k)) place
 
--- so two endings of the same number are one
+-- so two endings of the same number are equal
 pub one-ending : (e f : Option lpc.Ending) → ending-number e ≡ ending-number f → e ≡ f
 one-ending e f p = sym (ending-back e) ∙ ap ending-of p ∙ ending-back f
 
@@ -59,7 +59,7 @@ mark-back none = refl
 mark-back (some house.rule) = refl
 mark-back (some house.found) = refl
 
--- so two marks of the same number are one
+-- so two marks of the same number are equal
 pub one-mark : (m n : Option house.Mark) → mark-number m ≡ mark-number n → m ≡ n
 one-mark m n p = sym (mark-back m) ∙ ap mark-of p ∙ mark-back n
 
@@ -78,7 +78,7 @@ unfolding mark-number
 marked house.rule = refl
 marked house.found = refl
 
--- nor is any of a frame's
+-- nor is that of any mark of a frame
 all-marked : (xs : List Subcoded) → every (ltb 0) (map mark-number (map (λ s. some (house.mark s)) xs)) ≡ true
 unfolding every
 all-marked [] = refl

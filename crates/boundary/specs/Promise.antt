@@ -14,7 +14,7 @@ use Rattle.encoder.specs.declared.Encoder.{Encoder}
 use Rattle.encoder.specs.Promise.{coder, encoder-of}
 use Rattle.boundary.specs.declared.EncodeAnswer.{EncodeAnswer}
 
--- ---- the struct that crosses
+-- ---- the struct that a caller in C gets
 
 -- the number of an ending: 0 where there is none
 unfoldable pub ending-number : Option lpc.Ending → ℕ
@@ -29,7 +29,7 @@ mark-number none = 0
 mark-number (some house.rule) = 1
 mark-number (some house.found) = 2
 
--- the answer of a number, a state, an ending and the marks
+-- the answer with this number, this state, this ending and these marks
 unfoldable pub encode-answer : ℕ → standard.Coder → Option lpc.Ending → List (Option house.Mark) → EncodeAnswer
 encode-answer number state ending marks =
     record { state = encoder-of state; number = number; ending = ending-number ending; marks = map mark-number marks }

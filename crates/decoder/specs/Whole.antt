@@ -38,7 +38,7 @@ module _ {A : Type 0} (drp z : List A) (d : length drp ≡ 120) (l : length z �
   pub lent-history : take 120 (take 280 (drp ++ z)) ≡ drp
   lent-history = rw (take-take 120 280 (drp ++ z) (omega arith)) (take-at drp z 120 d)
 
-  -- what comes back is all of it
+  -- nothing is behind the 280 that are passed
   pub lent-all : (y : List A) → y ++ drop 280 (drp ++ z) ≡ y
   lent-all y =
       let whole : length (drp ++ z) ≤ 280 = rw length-append (omega arith) in

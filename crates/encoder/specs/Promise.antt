@@ -60,7 +60,7 @@ pub record Encodes (e : Encoder) (samples lent : List ℤ) (a : Encoded) (left :
 abbrev pub encoder-of : Coder → Encoder
 encoder-of c = record { z1 = c .z1; «l_z2» = c .L-z2; mp = c .mp; larpp = c .LARpp; u = c .u; dp = c .dp }
 
--- so two states that stand for the same are one
+-- so two states that stand for the same are equal
 pub same-state : (e f : Encoder) → coder e ≡ coder f → e ≡ f
 unfolding coder
 same-state e f p = ap encoder-of p
@@ -80,7 +80,7 @@ ending-back Ending-of.Silent = refl
 ending-back (Ending-of.Stopped n) = refl
 ending-back Ending-of.Complete = refl
 
--- so two endings that stand for the same are one
+-- so two endings that stand for the same are equal
 same-ending : (e f : Ending) → ending e ≡ ending f → e ≡ f
 same-ending e f p = sym (ending-back e) ∙ ap ending-of p ∙ ending-back f
 
@@ -112,7 +112,7 @@ marks-back : (m : Marks) → marks-of (marks m) ≡ m
 unfolding marks
 marks-back m = rw (mark-back (m .first), mark-back (m .second), mark-back (m .third), mark-back (m .fourth))
 
--- so two rows of marks that stand for the same are one
+-- so two rows of marks that stand for the same are equal
 same-marks : (m n : Marks) → marks m ≡ marks n → m ≡ n
 same-marks m n p = sym (marks-back m) ∙ ap marks-of p ∙ marks-back n
 
@@ -120,7 +120,7 @@ same-marks m n p = sym (marks-back m) ∙ ap marks-of p ∙ marks-back n
 abbrev encoded : ℕ → Encoder → Ending → Marks → Encoded
 encoded number state ending marks = record { number = number; state = state; ending = ending; marks = marks }
 
--- two answers of the same parts are one
+-- two answers of the same parts are equal
 same-answer : {a b : Encoded} → a .number ≡ b .number → a .state ≡ b .state → a .ending ≡ b .ending → a .marks ≡ b .marks → a ≡ b
 same-answer {a} {b} n s e m =
     let parts : encoded (a .number) (a .state) (a .ending) (a .marks)

@@ -22,7 +22,7 @@ use Rattle.frame_subframe.specs.Whole.{added}
 abbrev pub own : ℕ → List ℤ → List ℤ
 own n d = take 40 (drop (40 * n) d)
 
--- and the 120 before it
+-- and the 120 samples of the history before them
 abbrev pub before : ℕ → List ℤ → List ℤ
 before n h = take 120 (take 160 (drop (40 * n) h))
 
@@ -65,7 +65,7 @@ module _ (dp d : List ℤ) where
   abbrev pub four-added : List ℤ
   four-added = added₃ ++ added dp₃ (own 3 d)
 
-  -- the definition runs through them
+  -- the definition's run over the four sub-frames gives these
   pub run-four : run sub-step dp (cut (replicate 4 40) d) ≡ (dp₄, four)
   unfolding run cut sub-step
   run-four = simp drop-drop
@@ -75,20 +75,20 @@ module _ (dp d : List ℤ) where
   unfolding sub-step added
   step-is = refl
 
-  -- a sub-frame adds 40
+  -- a sub-frame adds 40 samples
   added-length : length dp ≡ 120 → length (added dp d) ≡ 40
   unfolding added
   added-length l =
       let f = sub-coded dp d .codes in
       reconstructed-length (natAbs (f .Nc)) f dp (sub-coded-lag dp d) (sub-coded-pulses dp d) l
 
--- one sub-frame: what stands in the list before it and after
+-- one sub-frame: what the list holds before it and after it (`Stands`: x, then r, and the last 120 of x are the history)
 module _ (n : ℕ) {dp x r h : List ℤ} (t : Stands (40 * n) dp x r h) (d : List ℤ) where
-  -- the history that stands there is of 120
+  -- the history has 120 samples
   history : length dp ≡ 120
   history = sym (ap length (t .last)) ∙ rw length-drop (omega (arith, t .size))
 
-  -- a sub-frame that put its own in place leaves what stands there after it
+  -- where a sub-frame put its samples in place, the list holds x and then these, and the history is the next one
   pub turn : {y : List ℤ} → y ≡ put (40 * n) 160 h (before n h ++ added (before n h) (own n d))
       → Stands (40 * n + 40) (sub-step dp (own n d) .0) (x ++ added dp (own n d)) (drop 40 r) y
   turn e =
@@ -98,12 +98,12 @@ module _ (n : ℕ) {dp x r h : List ℤ} (t : Stands (40 * n) dp x r h) (d : Lis
       (ap (λ (p : List ℤ). before n h ++ added p (own n d)) b) in
       rw (e, step-is dp (own n d)) next
 
--- the last 120 of what stands there are the history after it
+-- the last 120 samples of x, from index a on, are the history dp
 record Grown (a : ℕ) (dp x : List ℤ) : Type 0 where
   size : length x ≡ a + 120
   last : drop a x ≡ dp
 
--- a sub-frame carries that along
+-- the same is true after a sub-frame, of x with what it adds and of the next history
 grown-next : (a : ℕ) (dp x d : List ℤ) → Grown a dp x → Grown (a + 40) (sub-step dp d .0) (x ++ added dp d)
 grown-next a dp x d t =
     let l : length dp ≡ 120 = sym (ap length (t .last)) ∙ rw length-drop (omega (arith, t .size)) in
@@ -115,7 +115,7 @@ grown-next a dp x d t =
     }
 
 module _ (dp d : List ℤ) (l : length dp ≡ 120) where
-  -- so after the four
+  -- so it is true after the four
   all-four : Grown 160 (dp₄ dp d) (four-added dp d)
   all-four =
       let first = grown-next 0 dp dp (own 0 d) (record { size = omega arith; last = refl }) in
@@ -123,7 +123,7 @@ module _ (dp d : List ℤ) (l : length dp ≡ 120) where
       let third = grown-next 80 _ _ (own 2 d) second in
       grown-next 120 _ _ (own 3 d) third
 
-  -- there are 280 then
+  -- there are 280 samples then
   pub four-length : length (four-added dp d) ≡ 280
   four-length = all-four .size
 
@@ -131,7 +131,7 @@ module _ (dp d : List ℤ) (l : length dp ≡ 120) where
   pub four-last : drop 160 (four-added dp d) ≡ dp₄ dp d
   four-last = all-four .last
 
--- the 17 codewords of each, after the first eight
+-- the four parts of 17 codewords put in place, after the first eight
 pub four-put : (c w₁ w₂ w₃ w₄ : List ℤ) → length c ≡ 76 → length w₁ ≡ 17 → length w₂ ≡ 17 → length w₃ ≡ 17 → length w₄ ≡ 17
     → put 59 17 (put 42 17 (put 25 17 (put 8 17 c w₁) w₂) w₃) w₄ ≡ take 8 c ++ (w₁ ++ (w₂ ++ (w₃ ++ w₄)))
 four-put c w₁ w₂ w₃ w₄ l l₁ l₂ l₃ l₄ =
@@ -139,7 +139,7 @@ four-put c w₁ w₂ w₃ w₄ l l₁ l₂ l₃ l₄ =
     ap (λ (c : List ℤ). put 59 17 (put 42 17 (put 25 17 (put 8 17 c w₁) w₂) w₃) w₄) (sym (take-append-drop 8 c))
     ∙ (five c (take 8 c) w₁ w₂ w₃ w₄ 8 17 17 17 17 l₀ l₁ l₂ l₃ l₄ l ∙ simp append-assoc)
 
--- the seventeen of a sub-frame
+-- a sub-frame has 17 codewords
 pub words-length : (dp d : List ℤ) → length (sub-words (sub-coded dp d .codes)) ≡ 17
 unfolding sub-words
 words-length dp d = omega (arith, sub-coded-pulses dp d)

@@ -70,7 +70,7 @@ modulo-bits {w} {z = negsuc n} f = ap (λ (x : ℕ). 2 ^ bits w - suc x) (mod-eq
 
 -- ---- there and back
 
--- what is written, a word each, is read back
+-- words that are written are read back as they were
 pub read-back : (ws : List ℤ) → every word ws ≡ true → file-words (file-bytes ws) ≡ ws
 unfolding file-words file-bytes
 read-back [] e = refl
@@ -81,7 +81,7 @@ read-back (w ∷ ws) e =
     let d : n % 256 + 256 * (n / 256) ≡ n = omega arith in
     ap₂ _∷_ (ap (toZ w16) (d ∙ modulo-bits f) ∙ back f) (read-back ws u)
 
--- what is read, an even number of bytes, is written back as it was
+-- an even number of bytes that is read is written back as it was
 pub written-back : (bs : List ℕ) → every (λ b. ltb b 256) bs ≡ true → length bs % 2 ≡ 0 → file-bytes (file-words bs) ≡ bs
 unfolding file-words file-bytes
 written-back [] e l = refl

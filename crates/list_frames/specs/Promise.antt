@@ -89,7 +89,7 @@ module _ (l : Lister) (bytes lent : List ℕ) where
         let e = listed-unsound (state l) bytes (refused-unsound (sound-coder (coder (l .encoder))) refl n) in
         record { next = rw e; lines = rw e (puts-none 0 lent) }
 
-    -- the lines of what encode answers keep it where it does not
+    -- where encode does not refuse, the lines of its answer keep the promise
     pub done-keeps : l .frames < most-frames → a .number ≡ 0 → (r : ℕ) (text : List ℕ)
         → Puts 0 (frame-text (l .frames + 1) (ending (a .ending)) (marks (a .marks)) left) lent r text
         → Lists l bytes lent (record { state = record { frames = l .frames + 1; encoder = a .state }; length = r }) text
@@ -111,7 +111,7 @@ module _ (l : Lister) (bytes lent : List ℕ) where
 
 -- ---- it determines the outcome
 
--- two listers that stand for the same are one
+-- two listers that stand for the same are equal
 abbrev lister : ℕ → Encoder → Lister
 lister n e = record { frames = n; encoder = e }
 

@@ -57,7 +57,7 @@ S-is : (frame n : ℕ) (s : Subcoded) → S-text frame n (some (mark s)) (sub-wo
 unfolding S-text S-line mark-field tabbed
 S-is frame n s = rw (line-is (text "S") _) (simp append-assoc refl)
 
--- 17 codewords that stand after p
+-- the 17 codewords x after p
 after : (p x q : List ℤ) (a : ℕ) → length p ≡ a → length x ≡ 17 → take 17 (drop a (p ++ (x ++ q))) ≡ x
 after p x q a h l = rw (drop-at p (x ++ q) a h) (take-at x q 17 l)
 
@@ -145,11 +145,11 @@ pub E-limit : (bytes : ℕ) → 320000000 < bytes → E-line bytes ≡ text "E\t
 unfolding E-line line text decimal digits first
 E-limit bytes h = rw (lt-ltb 320000000 bytes h) refl
 
--- there it is one line
+-- so beyond the limit it does not depend on the number of bytes
 pub E-beyond : (a b : ℕ) → 320000000 < a → 320000000 < b → E-line a ≡ E-line b
 E-beyond a b h k = E-limit a h ∙ sym (E-limit b k)
 
--- and up to it
+-- the E line up to the limit
 pub E-end : (bytes : ℕ) → bytes ≤ 320000000
     → E-line bytes
     ≡ (((text "E" ++ 9 ∷ decimal (bytes / 320)) ++ (9 ∷ decimal (bytes % 320 / 2))) ++ (9 ∷ decimal (bytes % 2))) ++ text "\tend\n"

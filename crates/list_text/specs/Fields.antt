@@ -23,7 +23,7 @@ unfolding tabbed line
 line-is f [] = refl
 line-is f (g ∷ fs) = rw (line-is g fs, append-assoc)
 
--- fields joined
+-- the fields of two lists, joined
 pub tabbed-append : (fs gs : List (List ℕ)) → tabbed (fs ++ gs) ≡ tabbed fs ++ tabbed gs
 unfolding tabbed
 tabbed-append [] gs = refl

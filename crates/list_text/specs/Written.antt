@@ -12,7 +12,7 @@ module _ {A : Type 0} where
   abbrev pub written : ℕ → List A → List A → List A
   written a t xs = put a (length t) xs t
 
-  -- no text changes nothing
+  -- an empty text changes nothing
   pub written-none : (a : ℕ) (xs : List A) → written a [] xs ≡ xs
   written-none a xs = take-append-drop a xs
 
@@ -20,7 +20,7 @@ module _ {A : Type 0} where
   pub written-length : (a : ℕ) (t xs : List A) → a + length t ≤ length xs → length (written a t xs) ≡ length xs
   written-length a t xs h = simp (length-append, length-take, length-drop) (omega arith)
 
-  -- a text after another, where that one ends, is both joined
+  -- a text written where another one ends: the list has both, joined
   pub written-then : (a : ℕ) (t u xs : List A) → a + length t ≤ length xs
       → written (a + length t) u (written a t xs) ≡ written a (t ++ u) xs
   written-then a t u xs h =
@@ -44,7 +44,7 @@ module _ {A : Type 0} {a : ℕ} {t xs : List A} {r : ℕ} {ys : List A} (p : Put
   pub puts-length : length ys ≡ length xs
   puts-length = rw (p .text) (written-length a t xs (omega (arith, p .place)))
 
-  -- a text after it is both joined
+  -- a text put where it ends: both are put, joined
   pub puts-then : {u : List A} {s : ℕ} {zs : List A} → Puts r u ys s zs → Puts a (t ++ u) xs s zs
   puts-then {u} q =
       record {

@@ -32,13 +32,13 @@ unfolding bits every
 bits-are zero n = refl
 bits-are (suc w) n = rw (lt-ltb (n % 2) 2 (omega arith)) (bits-are w (n / 2))
 
--- a number that fits the width has its value back
+-- a number that fits the width is the value of its bits
 pub value-bits : (w n : ℕ) → n < 2 ^ w → value (bits w n) ≡ n
 unfolding bits value
 value-bits zero n h = omega arith
 value-bits (suc w) n h = rw (value-bits w (n / 2) (omega arith)) (omega arith)
 
--- bits have a value that fits their number
+-- the value of k bits is below 2 to the k
 pub value-below : (b : List ℕ) → are-bits b ≡ true → value b < 2 ^ length b
 unfolding value every
 value-below [] e = omega arith
@@ -80,7 +80,7 @@ low-first =
       write-read = bits-value;
     }
 
--- a number of h bits is one of k bits, where k is no less
+-- a number of h bits is also one of k bits, where h is at most k
 pub more-bits : (h k n : ℕ) → n < 2 ^ h → h ≤ k → n < 2 ^ k
 more-bits h k n l m = omega (arith, pow-mono {i = h} m)
 

@@ -41,7 +41,7 @@ module _ {X Y : Type 0} (k : Code X) (m : Code Y) (ws vs front back : List ℕ) 
       pub laid-bits : joined m vs (laid xs) ≡ whole xs
       laid-bits = joined-whole m vs (whole xs) whole-length whole-bits
 
-      -- the front stands before the fields
+      -- the front is before the fields
       pub laid-front : take (length front) (joined m vs (laid xs)) ≡ front
       laid-front = rw (laid-bits, take-append-seam)
 

@@ -22,7 +22,7 @@ use Rattle.packing.specs.Promise.{Packs, Unpacks}
 
 -- ---- the rows that both calls test first
 
--- the lengths, which both test first
+-- the rows of the two lengths
 abbrev length-rows : List ℤ → List ℕ → List (Bool × ℕ)
 length-rows c b = codewords-row c ∷ bytes-row b ∷ []
 

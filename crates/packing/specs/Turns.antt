@@ -91,7 +91,7 @@ module _ {c : List ℤ} {i k h n : ℕ} {out : List ℕ} (m : Packing c i k h n 
 -- ---- unpack's turn: i bytes are read, k codewords written, and h bits wait in n
 
 module _ {b : List ℕ} {i k h n : ℕ} {out : List ℤ} (m : Unpacking b i k h n out) where
-  -- where the bits that wait are too few for a codeword, a byte is left
+  -- where the bits that wait are too few for a codeword, a byte is left to read
   pub unpack-room : k < 76 → h < getD widths k 0 → i < 33
   unpack-room l s =
       let e : sum (drop k widths) ≡ getD widths k 0 + sum (drop (suc k) widths) = rw (drop-cons widths k 0 (rw field-count l)) in

@@ -37,7 +37,7 @@ module _ {X Y : Type 0} (num : X → ℕ) (of : ℕ → Y) (back : List ℕ) whe
       rw (e, append-assoc, take-at low rest v (bits-length v (n % 2 ^ v)), drop-at low rest v (bits-length v (n % 2 ^ v)))
       (rw (value-bits v (n % 2 ^ v) (mod-lt n (pow-pos v))))
 
-  -- after the last field zeros are the high bits
+  -- after the last field, r zeros fill up the cell: it is the number that waits
   coming-last : (h n r : ℕ) → n < 2 ^ h → back ≡ replicate r 0 → coming ((h + r) ∷ []) [] [] h n ≡ of n ∷ []
   unfolding cut flatten zipWith
   coming-last h n r l z =
@@ -53,7 +53,7 @@ module _ {X Y : Type 0} (num : X → ℕ) (of : ℕ → Y) (back : List ℕ) whe
       pub written : take k out ++ coming (drop k vs) (drop i ws) (drop i xs) h n ≡ coming vs ws xs 0 0
       -- each bit read is written or waits
       pub count : h + sum (drop i ws) + sum vs ≡ sum (drop k vs) + sum ws
-      -- no other bit is held
+      -- n has no bits above the h that wait
       pub held : n < 2 ^ h
 
     -- before the loop

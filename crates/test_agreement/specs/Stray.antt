@@ -20,12 +20,12 @@ use Rattle.law_fields.specs.Valid.{low-bits}
 unfoldable pub stray : ℤ → List ℤ → List ℤ
 stray k = zipWith (λ width c. c +ℤ k *ℤ pos (2 ^ width)) widths
 
--- a frame's codewords stay as many
+-- a frame still has 76 codewords
 pub stray-length : (k : ℤ) (c : List ℤ) → length c ≡ 76 → length (stray k c) ≡ 76
 unfolding widths LARc-widths sub-widths flatten stray
 stray-length k c h = rw zip-length (omega arith)
 
--- adding a multiple of m does not change a number modulo m: a multiple of m makes both equal and not negative
+-- adding a multiple of m does not change a number modulo m: with a multiple of m added to each, both are the same number
 modulo-moved : (c k : ℤ) (m : ℕ) → 0 < m → modulo (c +ℤ k *ℤ pos m) m ≡ modulo c m
 modulo-moved c k m h =
     let z = c +ℤ k *ℤ pos m in

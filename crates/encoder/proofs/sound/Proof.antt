@@ -19,7 +19,7 @@ use Rattle.encoder.specs.Soundness.{moved}
 use Rattle.encoder.proofs.sound.Statement.{statement}
 use Rattle.encoder.proofs.sound.Tie as tie
 
--- the two that are tested
+-- the two values that are tested
 module _ (s : tie.Start) where
   abbrev z1 : ℤ
   z1 = s .args .e .z1

@@ -46,7 +46,7 @@ above-requires c κs =
     let u = more-bits _ 7 _ (l .loop .inv .3 .held) (omega arith) in
     (omega (zar, know f), omega (arith, c .before .field-width .ensures, width-most (l .loop .i)), omega (zar, know f))
 
--- the codeword is above the bits that wait
+-- the invariant with the codeword put above the bits that wait
 taken : (c : tie.After-above Inv-loop μ-loop)
     → let l = c .before .before .before .before in
     let have = l .loop .have + c .before .before .field-width .result in
@@ -58,7 +58,7 @@ taken c =
     let w = c .before .before .field-width .ensures in
     pack-in (l .loop .inv .3) (s .pre .0) (s .pre .2) (omega arith) w (ap natAbs (back f)) (c .above .ensures)
 
--- and they are at most 14
+-- at most 14 bits wait then
 few : (c : tie.After-above Inv-loop μ-loop) → c .before .before .before .before .loop .have + c .before .before .field-width .result ≤ 14
 few c = omega (arith, width-most (c .before .before .before .before .loop .i), c .before .before .field-width .ensures)
 

@@ -25,7 +25,7 @@ Inv-loop bytes codewords₀ waiting₀ have₀ at₀ i₀ codewords waiting have
 abbrev μ-loop : tie.MeasureT-loop
 μ-loop bytes codewords₀ waiting₀ have₀ at₀ i₀ codewords waiting have at i = 76 - i
 
--- where the bits that wait are too few for the codeword, a byte is left
+-- where the bits that wait are too few for the codeword, a byte is left to read
 left : (c : tie.Then1 Inv-loop μ-loop) → c .before .before .before .loop .at < 33
 left c = unpack-room (c .before .before .before .loop .inv .3) (omega arith) (rw (c .before .field-width .ensures) at (c .if1 .taken))
 
@@ -36,7 +36,7 @@ above-requires c κs =
     let y = c .shared-slice-known2 .given (l .at) .fits in
     (omega arith, omega arith, omega arith)
 
--- it is above them
+-- the invariant with that byte put above them
 refilled : (c : tie.After-above Inv-loop μ-loop)
     → let l = c .before .before .before .before .before in
     let bytes = l .before .before .args .bytes .now in
@@ -66,7 +66,7 @@ enough c =
     (λ w. record { wait = rw (w .1, w .2, w .3) (l .inv .3); most = rw (w .2) (omega arith); least = rw (w .2) (w .0 .left) })
     (c .if1 .came)
 
--- so the codeword's limit is no 0
+-- the codeword's limit is above 0
 limit-above : (c : tie.After-power Inv-loop μ-loop) → 0 < c .power .result
 limit-above c = rw (c .power .ensures) (pow-pos (c .before .before .field-width .result))
 

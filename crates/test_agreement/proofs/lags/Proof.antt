@@ -21,7 +21,7 @@ use Rattle.standard.specs.LongTerm.{is-lag}
 use Rattle.test_agreement.proofs.lags.Statement.{statement}
 use Rattle.test_agreement.proofs.lags.Tie as tie
 
--- the lag at a place is one
+-- the codeword at index p is a lag
 abbrev lag-at : List ℤ → ℕ → Bool
 lag-at c p = is-lag (c at p)
 

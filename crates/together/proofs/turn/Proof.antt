@@ -23,7 +23,7 @@ module _ (w : tie.After-whole) where
   abbrev start : tie.Start
   start = read .before .before .before .before
 
-  -- where all stops
+  -- where the program stops
   stops : ((start .args .t .frames ≤ 1000000) × (start .args .t .apart ≤ start .args .t .frames))
       × ((0 ≤ 20480) × (false ≡ true → start .args .t .frames < start .args .t .frames))
   stops = (omega (arith, start), (omega arith, λ e. absurd (false≢true e)))

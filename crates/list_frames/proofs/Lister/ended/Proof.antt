@@ -1,4 +1,4 @@
--- Past the limit every E line is the same (`E-beyond`), so a number of bytes that fits 32 bits stands for any other.
+-- Past the limit every E line is the same (`E-beyond`), so 320000001, which fits 32 bits, may be used for any such number.
 use Prim.Native.Nat.{_+_, _*_}
 use native.Mathlib.Omega.{arith}
 use borrow.Author.Needs.{needs}
