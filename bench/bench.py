@@ -1,10 +1,13 @@
 #!/usr/bin/env python3
 """Measures our codec beside the others, in one process: `make bench`, or python3 bench/bench.py.
 
-Writes bench/results.tsv, bench/channels.tsv, bench/programs.tsv, bench/notes.txt and bench/results.svg. ROUNDS in the environment says how
-many rounds are timed: 101, which take a minute or two; 5 take seconds. What is missing is installed as Debian's
-packages where that can be done; a peer that cannot be had is said to be missing, and the rest is measured. Status 1:
-nothing could be compiled, or ours has other bits than libgsm, and then nothing is timed."""
+Writes bench/results.tsv, bench/channels.tsv, bench/programs.tsv, bench/notes.txt and bench/results.svg. ROUNDS in the
+environment says how many rounds are timed: 101, which take a minute or two; 5 take seconds. What is missing is
+installed as Debian's packages where possible. A codec that cannot be installed or built is named as missing, and the
+others are measured. Status 1: nothing could be compiled, or the bits of ours differ from libgsm's; then nothing is
+timed."""
+from __future__ import annotations
+
 import os
 import platform
 import random
@@ -13,12 +16,13 @@ import subprocess
 import sys
 import tarfile
 import wave
+from collections.abc import Callable, Sequence
 
 HERE = os.path.dirname(os.path.abspath(__file__))
 ROOT = os.path.dirname(HERE)
 BUILD = os.path.join(ROOT, 'build', 'bench')
 sys.path.insert(0, os.path.join(ROOT, 'outside'))
-import libgsm
+import build_libgsm
 import picture
 import programs
 import signals
@@ -37,7 +41,7 @@ class Failed(Exception):
     """Why nothing can be measured, in words."""
 
 
-def run(words, folder=ROOT):
+def run(words: Sequence[str], folder: str = ROOT) -> tuple[int, str]:
     """The status of a command, and what it said."""
     try:
         done = subprocess.run(words, cwd=folder, stdin=subprocess.DEVNULL, stdout=subprocess.PIPE,
@@ -47,9 +51,9 @@ def run(words, folder=ROOT):
     return done.returncode, done.stdout.strip()
 
 
-def install(name):
-    """Has a package if it can be had. Whether it came, the compiler and the programs find out."""
-    status, said = run([os.path.join(ROOT, 'outside', 'install'), name])
+def install(name: str) -> None:
+    """Installs a package if that is possible. The compiler and the programs find out whether it is there."""
+    status, said = run([os.path.join(ROOT, 'outside', 'install_packages'), name])
     if said:
         print(said, flush=True)
     if status != 0:
@@ -58,12 +62,12 @@ def install(name):
 
 # ---- the codecs
 
-def reference_libgsm():
-    libgsm.build()
-    return libgsm.LIBRARY
+def reference_libgsm() -> str:
+    build_libgsm.build()
+    return build_libgsm.LIBRARY
 
 
-def native_libgsm():
+def native_libgsm() -> str:
     """libgsm with all that gcc has: -O3, -march=native, no assertions. (The -O2 build has them, as libgsm's makefile
     and Debian's build do.)"""
     library, folder = os.path.join(BUILD, 'libgsm-native.so'), os.path.join(BUILD, 'libgsm')
@@ -71,14 +75,14 @@ def native_libgsm():
         return library
     shutil.rmtree(folder, ignore_errors=True)
     os.makedirs(folder)
-    _, source = libgsm.fetch(folder)
-    libgsm.compile_library(folder, source, library, ['-O3', '-march=native', '-DNDEBUG'])
+    _, source = build_libgsm.fetch(folder)
+    build_libgsm.compile_library(folder, source, library, ['-O3', '-march=native', '-DNDEBUG'])
     shutil.rmtree(folder)
     return library
 
 
-def our_archive():
-    """Our library: as it is shipped where that is for this processor, and elsewhere compiled from the same module."""
+def our_archive() -> str:
+    """Our library: as it is shipped on x86-64, and elsewhere compiled from the same module."""
     if platform.machine() == 'x86_64':
         archive = os.path.join(ROOT, 'build', 'lib', 'librpeltp.a')
         status, said = int(not os.path.exists(archive)), 'build/lib/librpeltp.a is not there; make archive makes it'
@@ -88,30 +92,30 @@ def our_archive():
               flush=True)
         status, said = run([os.path.join(HERE, 'native.sh'), archive])
     if status != 0:
-        raise libgsm.Missing(said)
+        raise build_libgsm.Missing(said)
     return archive
 
 
-def had(make, missing, *names):
-    """What make answers, or None, and then missing has why, by each of the names."""
+def had(make: Callable[[], str], missing: dict[str, str], *names: str) -> str | None:
+    """What make returns; or None, and then missing has the reason for each of the names."""
     try:
         return make()
-    except (libgsm.Missing, OSError, tarfile.TarError) as fault:
+    except (build_libgsm.Missing, OSError, tarfile.TarError) as fault:
         missing.update(dict.fromkeys(names, str(fault)))
         return None
 
 
-def codecs(missing):
-    """The words that name the codecs to the programs, and our library. All are held to the first that is there."""
+def codecs(missing: dict[str, str]) -> tuple[list[str], str | None]:
+    """The words that name the codecs to the programs, and our library. All are compared with the first one."""
     reference = had(reference_libgsm, missing, REFERENCE)
     archive = had(our_archive, missing, OURS, WORDS)
     native = had(native_libgsm, missing, NATIVE)
     listed = [('libgsm', REFERENCE, reference), ('ours', OURS, archive), ('words', WORDS, archive),
               ('libgsm', NATIVE, native), *((kind, name, library) for name, kind, library, _ in DEBIAN)]
-    return [word for entry in listed if entry[2] for word in entry], archive
+    return [word for kind, name, path in listed if path for word in (kind, name, path)], archive
 
 
-def compiled(name, archive):
+def compiled(name: str, archive: str | None) -> str:
     """Compiles bench.c or state.c, with the codecs; the path of the program."""
     program = os.path.join(BUILD, name)
     flags = ['-std=c11', '-O2', '-Wall', '-Wextra', '-I', os.path.join(ROOT, 'c')]
@@ -128,8 +132,8 @@ def compiled(name, archive):
 
 # ---- the material
 
-def prompts():
-    """The samples of the prompts, if they are installed and of our kind."""
+def prompts() -> bytes:
+    """The samples of the prompts, if they are installed and have 16 bits at 8 kHz."""
     status, said = run(['dpkg', '-L', PROMPTS])
     samples = b''
     for path in sorted(said.splitlines()) if status == 0 else []:
@@ -140,15 +144,15 @@ def prompts():
     return samples
 
 
-def material():
-    """Writes the three materials; the words that name them to bench, what the two that are timed are, and the speech."""
+def material() -> tuple[list[str], str, bytes]:
+    """Writes the three materials; the words that name them to bench, a note on the two that are timed, the speech."""
     speech, which = prompts(), f'the prompts of {PROMPTS}'
     if len(speech) < 320 * FRAMES:
         with open(os.path.join(ROOT, 'recordings', 'speech.raw'), 'rb') as file:
             speech = file.read()
         which = f'recordings/speech.raw, {len(speech) // 320} frames, again and again'
         speech *= 320 * FRAMES // len(speech) + 1
-    # on these libgsm with a floating-point search has other bits, and spandsp with MMX: both are Debian's for x86-64
+    # here libgsm with a floating-point search and spandsp with MMX have other bits: both are Debian's for x86-64
     hard = signals.square(160 * 400, 13) + signals.jump(160 * 200, *signals.ENDS)
     noise = signals.random_words(random.Random(SEED), 160 * FRAMES)
     words = []
@@ -162,8 +166,8 @@ def material():
 
 # ---- the run
 
-def measured(rounds, heard, listed, archive):
-    """What both programs say on standard output; bench says on standard error what it is doing."""
+def measured(rounds: str, heard: Sequence[str], listed: Sequence[str], archive: str | None) -> str:
+    """What both programs write; bench says on standard error what it is doing."""
     text = ''
     for words in ([compiled('bench', archive), rounds, *heard, *listed], [compiled('state', archive), *listed]):
         done = subprocess.run(words, stdin=subprocess.DEVNULL, stdout=subprocess.PIPE, text=True)
@@ -173,8 +177,8 @@ def measured(rounds, heard, listed, archive):
     return text
 
 
-def programs_run(speech, rounds):
-    """The programs, beside those of libgsm. Where one cannot be had, the table that stands is left."""
+def programs_run(speech: bytes, rounds: str) -> int:
+    """The programs, beside those of libgsm. Where one is missing, the old table is kept."""
     install('toast')
     print('ten minutes of speech through the programs, on standard input and output', flush=True)
     try:
@@ -188,8 +192,9 @@ def programs_run(speech, rounds):
     return 0
 
 
-def main():
-    rounds, missing = os.environ.get('ROUNDS', '101'), {}
+def main() -> int:
+    rounds = os.environ.get('ROUNDS', '101')
+    missing: dict[str, str] = {}
     if not rounds.isdecimal() or int(rounds) == 0:
         print(f'bench: ROUNDS is a number from 1 on, and not {rounds!r}')
         return 2

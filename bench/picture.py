@@ -3,7 +3,10 @@
 
 A bar for each row, as long as its frames a second; beside it the ratio to libgsm, and that number. One scale for each
 direction, so that speech and noise compare."""
+from __future__ import annotations
+
 import os
+from collections.abc import Iterator
 from xml.sax.saxutils import escape
 
 HERE = os.path.dirname(os.path.abspath(__file__))
@@ -19,9 +22,13 @@ HATCH = ('<defs><pattern id="hatched" width="6" height="6" patternUnits="userSpa
          '<rect width="6" height="6" fill="#f2f2f2"/><rect width="2" height="6" fill="#9a9a9a"/></pattern></defs>')
 
 
-def read():
+# the rows of a table, by direction and material
+Panels = dict[tuple[str, str], list[list[str]]]
+
+
+def read() -> tuple[Panels, list[str]]:
     """The rows of the table by direction and material, and the notes."""
-    panels = {}
+    panels: Panels = {}
     with open(TABLE, encoding='utf-8') as file:
         for line in file.read().splitlines()[1:]:
             direction, material, *row = line.split('\t')
@@ -30,15 +37,15 @@ def read():
         return panels, file.read().splitlines()
 
 
-def text(x, y, words, size=13, style=INK):
+def text(x: float, y: float, words: str, size: float = 13, style: str = INK) -> str:
     return f'<text x="{x:.0f}" y="{y:.0f}" font-size="{size}" {style}>{escape(words)}</text>'
 
 
-def kind(codec, right):
+def kind(codec: str, right: str) -> str:
     return 'ours' if codec.split(',')[0] == 'ours' else 'right' if right == 'yes' else 'other'
 
 
-def bar(y, row, longest):
+def bar(y: float, row: list[str], longest: int) -> Iterator[str]:
     codec, frames, ratio, right = row
     size, line = LONGEST * int(frames) / longest, y + BAR - 5
     yield text(LEFT - 10, line, codec, 13, f'{INK} text-anchor="end"')
@@ -48,7 +55,7 @@ def bar(y, row, longest):
     yield text(LEFT + size + 94, line, f'{int(frames):,}', 12, PALE)
 
 
-def legend(y):
+def legend(y: float) -> Iterator[str]:
     x = LEFT
     for name, words in LEGEND:
         yield f'<rect x="{x}" y="{y - 12}" width="16" height="14" {STYLE[name]}/>'
@@ -56,7 +63,7 @@ def legend(y):
         x += 60 + 8 * len(words)
 
 
-def wrapped(words, most=130):
+def wrapped(words: str, most: int = 130) -> list[str]:
     lines = ['']
     for word in words.split():
         if len(lines[-1]) + len(word) >= most:
@@ -65,7 +72,7 @@ def wrapped(words, most=130):
     return lines
 
 
-def drawing(panels, notes):
+def drawing(panels: Panels, notes: list[str]) -> tuple[list[str], int]:
     """What is drawn, and how high it is."""
     y = 62
     drawn = [text(20, 34, TITLE, 17, BOLD), *legend(y)]
@@ -84,7 +91,7 @@ def drawing(panels, notes):
     return drawn, y + 8
 
 
-def draw():
+def draw() -> None:
     drawn, height = drawing(*read())
     size = f'width="{WIDTH}" height="{height}"'
     head = f'<svg xmlns="http://www.w3.org/2000/svg" {size} viewBox="0 0 {WIDTH} {height}" {FONT}>'

@@ -1,11 +1,18 @@
 """Ten minutes of speech through our programs and through toast and untoast: what a user waits for. Called by bench.py.
 
-Each program reads a file on standard input and writes to a file. What is measured is the time of the processor, its
-own and the system's, from its start to its end; the best of some rounds, the programs in turn."""
+Each program reads a file on standard input and writes to a file. Measured is processor time, user and system, from
+start to end: the best of several rounds, the programs one after the other in each round."""
+from __future__ import annotations
+
 import os
 import platform
 import shutil
 import subprocess
+from collections.abc import Iterator
+
+# the best time by direction and name; direction, name, words, input, output and the bytes that the output must have
+Best = dict[tuple[str, str], float]
+Planned = tuple[str, str, list[str], str, str, int | None]
 
 HERE = os.path.dirname(os.path.abspath(__file__))
 ROOT = os.path.dirname(HERE)
@@ -18,7 +25,7 @@ class Missing(Exception):
     """Why a program cannot be had, in words."""
 
 
-def ours(name, build):
+def ours(name: str, build: str) -> str:
     """The path of one of our programs, for this processor."""
     if platform.machine() == 'x86_64':
         path = os.path.join(ROOT, 'build', 'bin', f'rpeltp-{name}')
@@ -33,7 +40,7 @@ def ours(name, build):
     return path
 
 
-def peer(name):
+def peer(name: str) -> list[str]:
     """toast and untoast on 16-bit samples."""
     path = shutil.which(name)
     if not path:
@@ -41,29 +48,31 @@ def peer(name):
     return [path, '-l']
 
 
-def took(words, given, answer):
-    """The seconds of the processor that a program takes. It must end well, and leave what it says in the file."""
+def took(words: list[str], given: str, answer: str) -> float:
+    """The seconds of processor time that a program takes. It must end with status 0; its output goes to a file."""
     with open(given, 'rb') as source, open(answer, 'wb') as target:
         process = subprocess.Popen(words, stdin=source, stdout=target, stderr=subprocess.PIPE)
+        assert process.stderr
         said = process.stderr.read()
         _, status, usage = os.wait4(process.pid, 0)
         process.returncode = os.waitstatus_to_exitcode(status)
         process.stderr.close()
     if status != 0 or said:
         raise Missing(f'{os.path.basename(words[0])} ended with status {status} and said {said.decode()!r}')
-    return usage.ru_utime + usage.ru_stime
+    return float(usage.ru_utime + usage.ru_stime)
 
 
-def files(speech, build):
-    """The speech of ten minutes, and where the others go."""
+def files(speech: bytes, build: str) -> tuple[str, str, str, str, str]:
+    """The path of ten minutes of speech, which is written, and the paths of the outputs."""
     given = os.path.join(build, 'ten-minutes.raw')
     with open(given, 'wb') as file:
         file.write((speech * (320 * FRAMES // len(speech) + 1))[:320 * FRAMES])
-    return given, *(os.path.join(build, f'ten-minutes.{end}') for end in ('cod', 'gsm', 'out', 'untoasted'))
+    coded, toasted, decoded, untoasted = (os.path.join(build, f'ten-minutes.{end}')
+                                          for end in ('cod', 'gsm', 'out', 'untoasted'))
+    return given, coded, toasted, decoded, untoasted
 
 
-def runs(speech, build):
-    """Direction, name, words, input, output and the bytes that it must have."""
+def runs(speech: bytes, build: str) -> Iterator[Planned]:
     given, coded, toasted, decoded, untoasted = files(speech, build)
     yield 'encode', 'ours: encode', [ours('encode', build)], given, coded, 152 * FRAMES
     yield 'encode', PEERS['encode'], peer('toast'), given, toasted, 33 * FRAMES
@@ -72,24 +81,25 @@ def runs(speech, build):
     yield 'decode', PEERS['decode'], peer('untoast'), toasted, untoasted, 320 * FRAMES
 
 
-def measured(speech, build, rounds):
-    """The best time of each program, by direction and name."""
-    planned, best = list(runs(speech, build)), {}
+def measured(speech: bytes, build: str, rounds: str) -> Best:
+    """The best time of each program."""
+    planned = list(runs(speech, build))
+    best: Best = {}
     for _ in range(min(int(rounds), ROUNDS)):
         for direction, name, words, given, answer, size in planned:
             seconds = took(words, given, answer)
             if size is not None and os.path.getsize(answer) != size:
-                raise Missing(f'{name} leaves {os.path.getsize(answer)} bytes where {size} are due')
+                raise Missing(f'{name} writes {os.path.getsize(answer)} bytes; {size} are expected')
             best[direction, name] = min(seconds, best.get((direction, name), seconds))
     return best
 
 
-def rows(best):
+def rows(best: Best) -> Iterator[tuple[str, ...]]:
     for (direction, name), seconds in best.items():
         ratio = best[direction, PEERS[direction]] / seconds
         yield direction, name, f'{seconds:.3f}', f'{1e6 * seconds / FRAMES:.2f}', f'{ratio:.2f}'
 
 
-def write(best):
+def write(best: Best) -> None:
     with open(os.path.join(HERE, 'programs.tsv'), 'w', encoding='utf-8') as file:
         file.writelines('\t'.join(row) + '\n' for row in (HEADER, *rows(best)))

@@ -1,12 +1,16 @@
-"""Makes the tables of what bench and state say: bench/results.tsv and bench/channels.tsv, and the same to read.
+"""Makes tables from the output of bench and state: bench/results.tsv and bench/channels.tsv, and prints them.
 
-A table has its header and its rows. What a reader has to know of both is in bench/notes.txt: on which processor, by
-which compilers, what is missing."""
+A table has a header and rows. What a reader has to know about both is in bench/notes.txt: which processor, which
+compilers, what is missing."""
+from __future__ import annotations
+
 import os
 import platform
 import re
 import shutil
 import subprocess
+from collections.abc import Iterable, Iterator, Mapping, Sequence
+from typing import Any
 
 HERE = os.path.dirname(os.path.abspath(__file__))
 OURS, WORDS = 'ours', 'ours, not packed'
@@ -19,55 +23,60 @@ CHANNELS = ('direction', 'codec', 'channels', 'bytes of state for a channel', 'f
 
 
 class Said:
-    """The lines of bench and state; besides, what the material is, and why what is missing is."""
+    """The lines of bench and state; also a note on the material, and the reason for what is missing."""
 
-    def __init__(self, text, rounds, material, missing):
-        self.rounds, self.material, self.missing, self.reference = rounds, material, dict(missing), None
-        self.other, self.best, self.turns, self.refused, self.state, self.above = {}, {}, {}, {}, {}, []
+    def __init__(self, text: str, rounds: str, material: str, missing: Mapping[str, str]) -> None:
+        self.rounds, self.material, self.missing, self.reference = rounds, material, dict(missing), ''
+        self.other: dict[tuple[str, str, int, str], tuple[int, int]] = {}
+        self.best: dict[tuple[str, str, str], float] = {}
+        self.turns: dict[tuple[str, str, int], float] = {}
+        self.refused: dict[str, float] = {}
+        self.state: dict[tuple[str, str], tuple[int, int]] = {}
+        self.above: list[float] = []
         for kind, *words in (line.split('\t') for line in text.splitlines()):
             getattr(self, f'read_{kind}')(*words)
 
-    def read_missing(self, name, reason):
+    def read_missing(self, name: str, reason: str) -> None:
         self.missing.setdefault(name, reason)
 
-    def read_reference(self, name):
+    def read_reference(self, name: str) -> None:
         self.reference = name
 
-    def read_bits(self, direction, material, channels, name, other, frames):
+    def read_bits(self, direction: str, material: str, channels: str, name: str, other: str, frames: str) -> None:
         self.other[direction, material, int(channels), name] = int(other), int(frames)
 
-    def read_best(self, direction, material, _, name, best, median):
+    def read_best(self, direction: str, material: str, _: str, name: str, best: str, median: str) -> None:
         self.best[direction, material, name] = float(best)
         self.above.append(float(median) / float(best) - 1)
 
-    def read_turns(self, direction, _, channels, name, best, __):
+    def read_turns(self, direction: str, _: str, channels: str, name: str, best: str, __: str) -> None:
         self.turns[direction, name, int(channels)] = float(best)
 
-    def read_refused(self, direction, took):
+    def read_refused(self, direction: str, took: str) -> None:
         self.refused[direction] = float(took)
 
-    def read_state(self, direction, name, own, everything):
+    def read_state(self, direction: str, name: str, own: str, everything: str) -> None:
         self.state[direction, name] = int(own), int(everything)
 
-    def right(self, direction, material, name):
+    def right(self, direction: str, material: str, name: str) -> bool:
         return self.other[direction, material, 1, name][0] == 0
 
-    def rival(self, direction):
+    def rival(self, direction: str) -> str | None:
         """The fastest peer, by the speech, of those whose bits are right on both materials. None: there is none."""
         times = {name: best for (way, material, name), best in self.best.items()
                  if (way, material) == (direction, 'speech') and name not in (OURS, WORDS)
                  and self.right(way, 'speech', name) and self.right(way, 'noise', name)}
-        return min(times, key=times.get, default=None)
+        return min(times, key=lambda name: times[name]) if times else None
 
 
 # ---- rows
 
-def ours_first(keys, place):
-    """The same keys, those of encode before those of decode, and in each ours before the others."""
+def ours_first(keys: Iterable[Any], place: int) -> list[Any]:
+    """The same keys, encode before decode, and ours before the others; place is the index of the name."""
     return sorted(keys, key=lambda key: (key[0] != 'encode', key[place] not in (OURS, WORDS)))
 
 
-def result_rows(said):
+def result_rows(said: Said) -> Iterator[tuple[Any, ...]]:
     for direction, material in dict.fromkeys(key[:2] for key in said.best):
         reference = said.best.get((direction, material, REFERENCE))
         for key in ours_first((key for key in said.best if key[:2] == (direction, material)), 2):
@@ -75,11 +84,11 @@ def result_rows(said):
             yield *key, round(1e9 / said.best[key]), ratio, 'yes' if said.right(*key) else 'no'
 
 
-def state_of(said, direction, name):
-    return said.state.get((direction, name), ('-', '-'))[0]
+def state_of(said: Said, direction: str, name: str) -> int | str:
+    return said.state[direction, name][0] if (direction, name) in said.state else '-'
 
 
-def channel_rows(said):
+def channel_rows(said: Said) -> Iterator[tuple[Any, ...]]:
     for direction, name, channels in ours_first(said.turns, 1):
         took = said.turns[direction, name, channels]
         yield direction, name, channels, state_of(said, direction, name), round(1e9 / took)
@@ -87,7 +96,7 @@ def channel_rows(said):
 
 # ---- notes
 
-def answer(*words):
+def answer(*words: str) -> str:
     try:
         return subprocess.run(words, stdout=subprocess.PIPE, stderr=subprocess.DEVNULL, text=True,
                               env={**os.environ, 'LC_ALL': 'C'}).stdout
@@ -95,7 +104,7 @@ def answer(*words):
         return ''
 
 
-def processor():
+def processor() -> str:
     named = re.search(r'^Model name:\s*(.+)$', answer('lscpu'), re.M)
     if not named and os.path.exists('/proc/cpuinfo'):
         with open('/proc/cpuinfo', encoding='utf-8') as file:
@@ -103,7 +112,7 @@ def processor():
     return f'{named.group(1) if named else "not named"} ({platform.machine()})'
 
 
-def compilers():
+def compilers() -> str:
     kit = os.environ.get('RATTLE_HOME') or os.path.dirname(os.path.dirname(os.path.realpath(shutil.which('rt') or '/')))
     clang = answer(os.path.join(kit, 'on', platform.machine(), 'toolchain', 'bin', 'clang'), '--version')
     named = re.search(r'clang version \S+', clang)
@@ -111,7 +120,7 @@ def compilers():
     return f'{gcc} for libgsm; ' + (f'{named.group()} of the Rattle kit for ours' if named else 'no Rattle kit')
 
 
-def ratios(said):
+def ratios(said: Said) -> Iterator[str]:
     """Ours beside libgsm, and beside the fastest peer with the right bits."""
     for direction, material, name in said.best:
         if name != OURS:
@@ -126,7 +135,7 @@ def ratios(said):
         yield f'ratio: {direction}, {material}: ours is ' + (', '.join(words) or 'alone')
 
 
-def refusals(said):
+def refusals(said: Said) -> Iterator[str]:
     calls = {direction: said.best[direction, 'speech', WORDS] for direction in said.refused}
     shares = [f'{direction} {took:.0f} ns, {100 * took / calls[direction]:.1f} % of a call that is done'
               for direction, took in said.refused.items()]
@@ -135,7 +144,7 @@ def refusals(said):
                f'what the boundary adds to the inner call: {"; ".join(shares)}')
 
 
-def hard_bits(said):
+def hard_bits(said: Said) -> Iterator[str]:
     """Who has other bits on the material that is compared alone."""
     wrong = [f'{name} in {other} of {frames} frames ({direction})'
              for (direction, material, channels, name), (other, frames) in said.other.items()
@@ -143,7 +152,7 @@ def hard_bits(said):
     yield f'bits: {HARD} at full scale are compared and not timed; other bits: ' + (', '.join(wrong) or 'none')
 
 
-def common_notes(said):
+def common_notes(said: Said) -> Iterator[str]:
     above = 100 * sorted(said.above)[len(said.above) // 2]
     yield f'processor: {processor()}'
     yield f'compilers: {compilers()}'
@@ -155,7 +164,7 @@ def common_notes(said):
         yield f'missing: {"; ".join(said.missing)}'
 
 
-def result_notes(said):
+def result_notes(said: Said) -> Iterator[str]:
     yield from common_notes(said)
     yield f'material: {said.material}; decoded is what {said.reference} makes of it'
     yield ('frames: each encoder leaves 33 bytes a frame and each decoder begins with them, ours in a layout of its '
@@ -170,7 +179,7 @@ def result_notes(said):
     yield from refusals(said)
 
 
-def channel_notes(said):
+def channel_notes(said: Said) -> Iterator[str]:
     yield from common_notes(said)
     yield ('channels: the speech is cut into as many parts; each channel has a state of its own, and a frame of each '
            'is taken in turn')
@@ -186,11 +195,12 @@ def channel_notes(said):
 
 # ---- files, and the same to read
 
-def all_notes(said):
-    return dict.fromkeys([*result_notes(said), *channel_notes(said)])
+def all_notes(said: Said) -> list[str]:
+    """Every note, once."""
+    return list(dict.fromkeys([*result_notes(said), *channel_notes(said)]))
 
 
-def write(said):
+def write(said: Said) -> None:
     for name, header, rows in (('results.tsv', RESULTS, result_rows), ('channels.tsv', CHANNELS, channel_rows)):
         with open(os.path.join(HERE, name), 'w', encoding='utf-8') as file:
             file.writelines('\t'.join(map(str, row)) + '\n' for row in (header, *rows(said)))
@@ -198,7 +208,7 @@ def write(said):
         file.writelines(f'{note}\n' for note in all_notes(said))
 
 
-def aligned(header, rows):
+def aligned(header: Sequence[Any], rows: Iterable[Sequence[Any]]) -> None:
     """Prints a table, its numbers to the right."""
     cells = [[f'{cell:,}' if isinstance(cell, int) else str(cell) for cell in row] for row in (header, *rows)]
     columns = list(zip(*cells))
@@ -210,7 +220,7 @@ def aligned(header, rows):
     print()
 
 
-def side_by_side(said):
+def side_by_side(said: Said) -> Iterator[tuple[Any, ...]]:
     """The channels again, a row for each codec; last, what a frame takes more with the most channels than with one."""
     counts = sorted({channels for *_, channels in said.turns})
     yield 'direction', 'codec', 'bytes of state', *(f'with {count}' for count in counts), f'{counts[-1]} take more, %'
@@ -220,7 +230,7 @@ def side_by_side(said):
         yield direction, name, state_of(said, direction, name), *(round(1e9 / each) for each in took), more
 
 
-def show(said):
+def show(said: Said) -> None:
     """All of it to read: the notes, why what is missing is, and the tables last."""
     print()
     for note in all_notes(said):

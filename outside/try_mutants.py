@@ -1,10 +1,14 @@
 #!/usr/bin/env python3
-"""Shows that the comparison's inputs tell a wrong codec from a right one: mutants of the second codec, each with one small wrong change.
+"""Shows that the inputs of the comparison distinguish a wrong codec from a right one: mutants of the second codec, each
+with one small wrong change.
 
-    python3 outside/mutants.py [NAME..]       every mutant of mutants.txt, or those named
+    python3 outside/try_mutants.py [NAME..]       every mutant of mutants.txt, or those named
 
-Each is built and put through the inputs of `compare.py --frames 20000`, of `compare.py --alaw` and of the lister's runs, the quickest first,
-until it gives something else than the second codec as it is. Status 1: one that is not told from it, or a change that does not apply."""
+Each is built and gets the inputs of `compare.py --frames 20000`, of `compare.py --alaw` and of the lister's runs, the
+quickest first, until its answer differs from that of the second codec. Status 1: a mutant whose answers never differ,
+or a change that does not apply."""
+from __future__ import annotations
+
 import concurrent.futures
 import os
 import re
@@ -13,67 +17,83 @@ import subprocess
 import sys
 import time
 from array import array
+from collections.abc import Iterator
 
-import alaw
-import lister
+import alaw_comparison
+import program_tests
 import peers
 import signals
 import states
 from differences import first_place
+
+# name, file, old, new and why of a mutant; mode, name and bytes of an input; mode, name, path and answer of a saved one
+Mutant = dict[str, str]
+Input = tuple[str, str, bytes]
+Saved = tuple[str, str, str, bytes]
 
 FOLDER = os.path.join(peers.BUILD, 'mutants')
 LIST = os.path.join(peers.HERE, 'mutants.txt')
 SEED, FRAMES = 961, 20000
 PATIENCE = 30
 # bytes that each mode takes in about the same time
-COST = {'list': 320, 'encode': 320, 'decode': 304, 'calls': 1536, 'expand': 8000, 'compress': 16000, 'compress-samples': 16000, 'encode-alaw': 160,
-        'decode-alaw': 304}
-# they go through the codec that the modes of 16 bits go through, whose inputs have to tell by themselves what is wrong there: these come after
+COST = {'list': 320, 'encode': 320, 'decode': 304, 'calls': 1536, 'expand': 8000, 'compress': 16000,
+        'compress-samples': 16000, 'encode-alaw': 160, 'decode-alaw': 304}
+# These use the same codec as the modes of 16 bits, whose inputs must find by themselves what is wrong there: these come
+# last.
 LAST = ('encode-alaw', 'decode-alaw')
-# quick to build and yet quick enough to run; a mutant that overflows must end, as it would in the second codec
-FLAGS = ['--edition', '2021', '-A', 'warnings', '-C', 'opt-level=1', '-C', 'codegen-units=1', '-C', 'overflow-checks=on', '-C', 'debuginfo=0']
+# quick to build and quick enough to run; a mutant that overflows must end, as the second codec would
+FLAGS = ['--edition', '2021', '-A', 'warnings', '-C', 'opt-level=1', '-C', 'codegen-units=1',
+         '-C', 'overflow-checks=on', '-C', 'debuginfo=0']
 
 
-def mutants():
-    """Of each mutant what mutants.txt has: name, file, old, new, why. A text of several lines has as many lines old: or new:."""
-    with open(LIST, encoding='utf-8') as file:
-        blocks = re.sub(r'^#.*\n', '', file.read(), flags=re.M).strip().split('\n\n')
-    for block in blocks:
-        fields = {}
+def mutants_of(text: str) -> Iterator[Mutant]:
+    """The mutants in the text of mutants.txt. Old or new text of several lines has as many lines old: or new:."""
+    for block in re.sub(r'^#.*\n', '', text, flags=re.M).strip().split('\n\n'):
+        fields: Mutant = {}
         for line in block.splitlines():
-            key, _, text = line.partition(':')
-            fields[key] = f'{fields[key]}\n{text[1:]}' if key in fields else text[1:]
+            key, _, rest = line.partition(':')
+            fields[key] = f'{fields[key]}\n{rest[1:]}' if key in fields else rest[1:]
         yield fields
 
 
-def inputs():
-    """Of each input the mode, its name, and its bytes."""
+def mutants() -> list[Mutant]:
+    with open(LIST, encoding='utf-8') as file:
+        return list(mutants_of(file.read()))
+
+
+def inputs() -> Iterator[Input]:
+    """Every input."""
     for run in signals.sounds(SEED, FRAMES):
         yield 'list', run.name, run.words.tobytes()
     for run in signals.coded(SEED, FRAMES):
         yield 'decode', run.name, run.words.tobytes()
     yield 'calls', 'single calls', b''.join(record.tobytes() for _, record in states.records(SEED, FRAMES // 5))
-    for name, given in lister.inputs():
+    for name, given in program_tests.inputs():
         yield 'list', name, given
-    yield 'encode', 'speech', lister.speech()
+    yield 'encode', 'speech', program_tests.speech()
     yield from alaw_inputs()
 
 
-def alaw_inputs():
-    """Those of compare.py --alaw, and octets and frames from home."""
+def alaw_inputs() -> Iterator[Input]:
+    """The inputs of compare.py --alaw, and octets and frames from home."""
     yield 'expand', 'all octets', bytes(range(256))
     yield 'compress', 'all values of 13 bits', array('h', range(-4096, 4096)).tobytes()
     yield 'compress-samples', 'all samples', array('h', range(-32768, 32768)).tobytes()
-    for run in alaw.octet_runs(SEED, FRAMES // 10):
+    for run in alaw_comparison.octet_runs(SEED, FRAMES // 10):
         yield 'encode-alaw', run.name, run.words.tobytes()
     for run in signals.coded(SEED, FRAMES // 10):
         yield 'decode-alaw', run.name, run.words.tobytes()
 
 
-def saved():
-    """The inputs as files, quickest first, each with what the second codec gives."""
+def cost(each: Input) -> tuple[bool, float]:
+    mode, _, given = each
+    return mode in LAST, len(given) / COST[mode]
+
+
+def saved() -> list[Saved]:
+    """The inputs as files, quickest first, each with the answer of the second codec."""
     ready = []
-    for number, (mode, name, given) in enumerate(sorted(inputs(), key=lambda each: (each[0] in LAST, len(each[2]) / COST[each[0]]))):
+    for number, (mode, name, given) in enumerate(sorted(inputs(), key=cost)):
         path = os.path.join(FOLDER, f'{number}.raw')
         with open(path, 'wb') as file:
             file.write(given)
@@ -81,8 +101,8 @@ def saved():
     return ready
 
 
-def changed(mutant):
-    """A copy of the second codec's source with the mutant's change, which must apply in one place."""
+def changed(mutant: Mutant) -> str:
+    """Makes a copy of the second codec's source with the mutant's change, which must apply exactly once; its folder."""
     source = os.path.join(FOLDER, mutant['name'])
     shutil.copytree(os.path.join(peers.SOURCE, 'src'), source)
     path = os.path.join(source, mutant['file'])
@@ -95,15 +115,16 @@ def changed(mutant):
     return source
 
 
-def caught(mutant, ready):
-    """The mode, the input and the place at which a mutant is told from the second codec; nothing, if it is not."""
+def caught(mutant: Mutant, ready: list[Saved]) -> str | None:
+    """The mode, the input and the byte at which a mutant differs from the second codec; None, if it never differs."""
     source = changed(mutant)
     program = os.path.join(source, 'mutant')
     peers.run(['rustc', *FLAGS, '-o', program, os.path.join(source, 'main.rs')], b'')
     try:
         for mode, name, path, want in ready:
             with open(path, 'rb') as given:
-                done = subprocess.run([program, mode], stdin=given, stdout=subprocess.PIPE, stderr=subprocess.DEVNULL, timeout=PATIENCE)
+                done = subprocess.run([program, mode], stdin=given, stdout=subprocess.PIPE, stderr=subprocess.DEVNULL,
+                                      timeout=PATIENCE)
             if done.returncode != 0:
                 return f'{mode}, {name}: it ends with status {done.returncode}'
             if done.stdout != want:
@@ -115,7 +136,7 @@ def caught(mutant, ready):
     return None
 
 
-def main():
+def main() -> int:
     began, wanted = time.monotonic(), sys.argv[1:]
     shutil.rmtree(FOLDER, ignore_errors=True)
     os.makedirs(FOLDER)
@@ -125,7 +146,8 @@ def main():
         return 1
     try:
         peers.build_second()
-        ready, survivors = saved(), []
+        ready = saved()
+        survivors: list[str] = []
         with concurrent.futures.ThreadPoolExecutor(2) as pool:
             for mutant, place in zip(chosen, pool.map(lambda mutant: caught(mutant, ready), chosen)):
                 print(f'{mutant["name"]}: {place or "NOT CAUGHT"}', flush=True)

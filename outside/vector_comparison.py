@@ -1,49 +1,55 @@
-"""The stored vectors and, where someone has them, the published sequences: our programs and the second codec on each."""
+"""The stored vectors and, where somebody has them, the published sequences: our programs and the second codec on each.
+compare.py --vectors and --sequences call it."""
+from __future__ import annotations
+
 import os
 import random
 from array import array
+from typing import Any
 
 import peers
 import states
 from differences import Difference, same_bytes
 
-# Table A3.1 of 001: frames of each sequence; the last has no samples to encode
+# table A3.1 of the standard: the frames of each sequence; the last has no samples to encode
 SEQUENCES = {'SEQ01': 584, 'SEQ02': 947, 'SEQ03': 673, 'SEQ04': 520, 'SEQ05': 64}
 FRAME_BYTES = {'INP': 320, 'COD': 152, 'OUT': 320}
 
 
-def contents(path):
+def contents(path: str) -> bytes:
     with open(path, 'rb') as file:
         return file.read()
 
 
-def frames(path, size):
+def frames(path: str, size: int) -> list[list[int]]:
     """The whole frames of a file, of size words each."""
     raw = contents(path)
     words = array('h', raw[:len(raw) // (2 * size) * (2 * size)])
-    return [words[place:place + size].tolist() for place in range(0, len(words), size)]
+    return [words[start:start + size].tolist() for start in range(0, len(words), size)]
 
 
-def by_both(name, mode, program, given, source, expected):
-    """Our program and the second codec on what is given; both must give what a file has."""
+def by_both(name: str, mode: str, program: str, given: bytes, source: str, expected: bytes) -> None:
+    """Our program and the second codec on what is given; both must give the bytes of a file."""
     same_bytes(name, (source, expected), ('ours', peers.ours(program, given)))
     same_bytes(name, (source, expected), ('the second codec', peers.second(mode, given)))
 
 
 # ---- vectors
 
-def named(folder, ending):
-    """The paths of the files in a folder whose names end so, without that ending, in order."""
+def named(folder: str, ending: str) -> list[str]:
+    """The paths of the files in a folder with that ending, without the ending, in order."""
     names = sorted(os.listdir(folder)) if os.path.isdir(folder) else []
     return [os.path.join(folder, name[:-len(ending)]) for name in names if name.endswith(ending)]
 
 
-def packed_by_calls(path):
+def packed_by_calls(path: str) -> None:
     """The frames of a vector packed and unpacked by single calls of both."""
     dice, expected, asked = random.Random(path), [], []
-    for codewords, place in zip(frames(path + '.cod', 76), range(0, 10 ** 9, 33)):
-        packed = list(contents(path + '.pack')[place:place + 33])
-        for call, given in ((states.PACK, {'codewords': codewords}), (states.UNPACK, {'packed': packed})):
+    for number, codewords in enumerate(frames(path + '.cod', 76)):
+        packed = list(contents(path + '.pack')[33 * number:33 * number + 33])
+        calls: tuple[tuple[int, dict[str, Any]], ...] = (
+            (states.PACK, {'codewords': codewords}), (states.UNPACK, {'packed': packed}))
+        for call, given in calls:
             record = states.record(dice, call, **given)
             asked.append(record.tobytes())
             record[:states.HOUSE] = array('H', [0] * states.HOUSE)
@@ -53,11 +59,11 @@ def packed_by_calls(path):
     by_both(f'{path}: packed and unpacked', 'calls', 'calls', b''.join(asked), 'the file', b''.join(expected))
 
 
-def encoder_vector(path):
-    """How many frames of PATH.raw were found to give PATH.cod, .lst and .pack, and back."""
+def encoder_vector(path: str) -> int:
+    """Compares what PATH.raw gives with PATH.cod, .lst and .pack, and back; how many frames that is."""
     raw, cod, packed = (contents(path + ending) for ending in ('.raw', '.cod', '.pack'))
     if len(cod) != len(raw) // 320 * 152:
-        raise Difference(f'{path}.cod: it has not a frame for each of .raw')
+        raise Difference(f'{path}.cod: it does not have one frame for each frame of .raw')
     by_both(f'{path}.cod', 'encode', 'encode', raw, 'the file', cod)
     by_both(f'{path}.lst', 'list', 'lister', raw, 'the file', contents(path + '.lst'))
     same_bytes(f'{path}.pack', ('the file', packed), ('the second codec', peers.second('pack', cod)))
@@ -66,26 +72,28 @@ def encoder_vector(path):
     return len(raw) // 320
 
 
-def decoder_vector(path):
+def decoder_vector(path: str) -> int:
+    """Compares what PATH.cod gives with PATH.out; how many frames that is."""
     cod = contents(path + '.cod')
     by_both(f'{path}.out', 'decode', 'decode', cod, 'the file', contents(path + '.out'))
     return len(cod) // 152
 
 
-def vectors(folder):
+def vectors(folder: str) -> None:
     to_encode = named(os.path.join(folder, 'enc'), '.raw')
     to_decode = named(os.path.join(folder, 'enc'), '.cod') + named(os.path.join(folder, 'dec'), '.cod')
     if not to_encode or not to_decode:
         raise Difference(f'{folder}: no vectors')
     print('vectors, by ours and by the second codec:')
-    print(f'{sum(map(encoder_vector, to_encode))} frames of {len(to_encode)} files encoded, listed, packed and unpacked: no difference')
+    print(f'{sum(map(encoder_vector, to_encode))} frames of {len(to_encode)} files encoded, listed, packed and '
+          'unpacked: no difference')
     print(f'{sum(map(decoder_vector, to_decode))} frames of {len(to_decode)} files decoded: no difference')
 
 
 # ---- the published sequences
 
-def sequence(folder, name, frames):
-    """The files of one sequence by their endings, each of the size that table A3.1 has."""
+def sequence(folder: str, name: str, frames: int) -> dict[str, bytes]:
+    """The files of one sequence by their endings, each of the size that table A3.1 gives."""
     present, found = {entry.upper(): entry for entry in os.listdir(folder)}, {}
     for ending, size in FRAME_BYTES.items():
         file = f'{name}.{ending}'
@@ -95,16 +103,17 @@ def sequence(folder, name, frames):
             raise Difference(f'the published sequences: there is no {file}')
         found[ending] = contents(os.path.join(folder, present[file]))
         if len(found[ending]) != size * frames:
-            raise Difference(f'the published sequences: {file} has {len(found[ending])} bytes; by table A3.1 {frames} frames have {size * frames}')
+            raise Difference(f'the published sequences: {file} has {len(found[ending])} bytes; by table A3.1 {frames} '
+                             f'frames have {size * frames}')
     return found
 
 
-def sequences(folder):
+def sequences(folder: str | None) -> None:
     if not folder:
         print('NOT RUN: the published sequences SEQ01 to SEQ05 were not at hand (RPELTP_SEQUENCES names no folder)')
         return
     if not os.path.isdir(folder):
-        raise Difference('the published sequences: RPELTP_SEQUENCES names no folder that there is')
+        raise Difference('the published sequences: RPELTP_SEQUENCES does not name a folder')
     for name, frames in SEQUENCES.items():
         found = sequence(folder, name, frames)
         if 'INP' in found:

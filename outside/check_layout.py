@@ -1,19 +1,28 @@
 #!/usr/bin/env python3
-"""Holds c/rpeltp.h and rust/src/raw.rs to the source of the calls, field by field: nothing else would see them drift.
+"""Compares c/rpeltp.h and rust/src/raw.rs with the source of the calls, field by field. Nothing else would notice a
+difference.
 
-    python3 outside/layout.py
+    python3 outside/check_layout.py
 
-Compared are: each struct's fields, their order and types; where each stands and how large the struct is, as C lays it
-out; each call's name, parameters and result; each number that has a name; the lengths of a frame and the bounds of a
-sound state; the version. Then both files are altered in many small ways, and each must be seen. Status 1: a
-difference, or an alteration that was not seen."""
+Compared are: each struct's fields, their order and types; the offset of each field and the size of the struct, as C
+lays it out; each call's name, parameters and result; each number that has a name; the lengths of a frame and the bounds
+of a sound state; the version. Then both files are altered in many small ways, and each alteration must be noticed.
+Status 1: a difference, or an alteration that was not noticed."""
+from __future__ import annotations
+
 import os
 import re
 import sys
+from collections.abc import Callable, Iterable, Iterator
+from typing import Any
 
-ROOT = os.path.join(os.path.dirname(os.path.abspath(__file__)), '..')
+ROOT = os.path.dirname(os.path.dirname(os.path.abspath(__file__)))
+
+# the name and type of each field or parameter; the parameters and the result of a call
+Fields = list[tuple[str, str]]
+Call = tuple[Fields, str]
 HEADER, RAW, BOUNDARY = 'c/rpeltp.h', 'rust/src/raw.rs', 'crates/boundary/src/lib.rt'
-# where the structs that cross are declared, and what they are called in C
+# where the structs that the calls take and return are declared, and their names in C
 STRUCTS = {'Encoder': 'crates/encoder/src/lib.rt', 'Decoder': 'crates/decoder/src/lib.rt',
            'EncodeAnswer': BOUNDARY, 'Decoded': 'crates/decoder/src/lib.rt'}
 C_NAMES = {'Encoder': 'rpeltp_encoder', 'Decoder': 'rpeltp_decoder',
@@ -21,7 +30,7 @@ C_NAMES = {'Encoder': 'rpeltp_encoder', 'Decoder': 'rpeltp_decoder',
 C_TYPES = {'int16_t': 'i16', 'int32_t': 'i32', 'uint16_t': 'u16', 'uint8_t': 'u8',
            **{name: ours for ours, name in C_NAMES.items()}}
 BYTES = {'u8': 1, 'i16': 2, 'u16': 2, 'i32': 4}
-# names in C for the cases of the definitions, and for 01's rows
+# names in C for the cases of the definitions, and for the rows of the house rules, 'Refusals'
 ENDINGS = {'none': 'NO_ENDING', '(some lpc.silent)': 'SILENT', '(some lpc.complete)': 'COMPLETE',
            '(some (lpc.stopped n))': 'STOPPED'}
 MARKS = {'none': 'NO_MARK', '(some house.rule)': 'RULE', '(some house.found)': 'FOUND'}
@@ -30,20 +39,20 @@ ROWS = {'samples': 'REFUSED_SAMPLES', 'codewords': 'REFUSED_CODEWORDS', 'state':
 
 
 class Drift(Exception):
-    """Two places that say different things, in words."""
+    """Two files that say different things, in words."""
 
 
-def read(path):
+def read(path: str) -> str:
     with open(os.path.join(ROOT, path), encoding='utf-8') as file:
         return file.read()
 
 
-def same(what, ours, theirs):
+def same(what: str, ours: Any, theirs: Any) -> None:
     if ours != theirs:
-        raise Drift(f'{what}: the source has {ours}, and the other {theirs}')
+        raise Drift(f'{what}: the source has {ours}, and the other has {theirs}')
 
 
-def found(pattern, text, what):
+def found(pattern: str, text: str, what: str) -> re.Match[str]:
     match = re.search(pattern, text, re.S | re.M)
     if not match:
         raise Drift(f'{what} is not found')
@@ -52,29 +61,30 @@ def found(pattern, text, what):
 
 # ---- the source
 
-def rust_fields(body):
+def rust_fields(body: str) -> Fields:
     """The names and types of fields or parameters, in Rattle and in Rust."""
     pairs = re.findall(r'(?:pub )?(\w+):\s*(\[[^]]*\]|&(?:mut )?\[\w+\]|[*\w ]+?)\s*(?:,|$)', body.strip())
     return [(name, re.sub(r'\s', '', kind)) for name, kind in pairs]
 
 
-def source_structs():
-    """The fields of each struct that crosses; each is laid out as in C."""
+def source_structs() -> dict[str, Fields]:
+    """The fields of each struct of the calls; each is laid out as in C."""
     bodies = {name: found(rf'#\[repr\(C\)\]\npub struct {name} \{{\n(.*?)\n\}}', read(path), f'struct {name} in {path}')
               for name, path in STRUCTS.items()}
     return {name: rust_fields(body.group(1)) for name, body in bodies.items()}
 
 
-def source_calls():
+def source_calls() -> dict[str, Call]:
     """The parameters and the result of each call that is exported."""
     exported = re.findall(r'#\[no_mangle\]\npub extern "C" fn (\w+)\((.*?)\)\s*->\s*(\w+)', read(BOUNDARY), re.S)
     return {name: (rust_fields(parameters), result) for name, parameters, result in exported}
 
 
-def source_numbers():
-    """The numbers that have names: of endings and marks by the definition's cases, of refusals by 01's rows, of a frame."""
+def source_numbers() -> dict[str, int]:
+    """The numbers that have names: endings and marks from the definition's cases, refusals from the rows of the house
+    rules, and the lengths of a frame."""
     promise, house = read('crates/boundary/specs/Promise.antt'), read('crates/standard/specs/House.antt')
-    numbers = {'DONE': 0}
+    numbers: dict[str, int] = {'DONE': 0}
     for definition, names in (('ending-number', ENDINGS), ('mark-number', MARKS)):
         cases = re.findall(rf'^{definition} (none|\(some .*\)) = (\d+)', promise, re.M)
         same(f'the cases of {definition}', [case for case, _ in cases], list(names))
@@ -87,26 +97,27 @@ def source_numbers():
     return numbers
 
 
-def source_bounds():
-    """What a sound state keeps within, by the words of the definitions."""
+def source_bounds() -> list[tuple[str, str]]:
+    """The bounds of a sound state, from the text of the definitions."""
     house, lag = read('crates/standard/specs/House.antt'), read('crates/standard/specs/LongTerm.antt')
     sound = found(r'^sound-coder c =\n(.*?)\n\n', house, 'sound-coder').group(1)
     pairs = re.findall(r'within \(neg (\d+)\) \(pos (\d+)\)', sound)
     lags = found(r'is-lag .*?within \(pos (\d+)\) \(pos (\d+)\)', lag, 'is-lag').groups()
-    return [(f'-{low}', high) for low, high in pairs] + [lags]
+    return [(f'-{low}', high) for low, high in pairs] + [(lags[0], lags[1])]
 
 
 # ---- the layout that C gives to fields
 
-def element(kind):
-    """Of a field's type: its element, and how many there are."""
+def element(kind: str) -> tuple[str, int]:
+    """The type of the elements of a field, and how many there are."""
     match = re.fullmatch(r'\[(\w+);(\d+)\]', kind)
     return (match.group(1), int(match.group(2))) if match else (kind, 1)
 
 
-def laid_out(name, structs):
-    """Of a struct: where each field stands, its size, its alignment. Padding is refused, since nothing clears it."""
-    places, at, most = {}, 0, 1
+def laid_out(name: str, structs: dict[str, Fields]) -> tuple[dict[str, int], int, int]:
+    """The offset of each field of a struct, its size, its alignment. Padding is refused, since nothing clears it."""
+    places: dict[str, int] = {}
+    at, most = 0, 1
     for field, kind in structs[name]:
         one, count = element(kind)
         size, align = laid_out(one, structs)[1:] if one in structs else (BYTES[one], BYTES[one])
@@ -120,16 +131,16 @@ def laid_out(name, structs):
 
 # ---- the header
 
-def without_comments(header):
+def without_comments(header: str) -> str:
     return re.sub(r'/\*.*?\*/', '', header, flags=re.S)
 
 
-def c_type(kind, count=None):
+def c_type(kind: str, count: str | None = None) -> str:
     ours = C_TYPES.get(kind, kind)
     return f'[{ours};{count}]' if count else ours
 
 
-def header_structs(text):
+def header_structs(text: str) -> dict[str, Fields]:
     structs = {}
     for body, name in re.findall(r'typedef struct \{(.*?)\} (\w+);', text, re.S):
         fields = re.findall(r'(\w+) (\w+)(?:\[(\d+)\])?;', body)
@@ -137,9 +148,10 @@ def header_structs(text):
     return structs
 
 
-def header_parameters(text):
+def header_parameters(text: str) -> Fields:
     """A pointer and the length of the same name are a slice."""
-    words, parameters = [re.sub(r'\s+', ' ', word).strip() for word in text.split(',')], []
+    words = [re.sub(r'\s+', ' ', word).strip() for word in text.split(',')]
+    parameters: Fields = []
     while words and words != ['void']:
         pointer = re.fullmatch(r'(const )?(\w+) \*(\w+)', words[0])
         if not pointer:
@@ -153,24 +165,24 @@ def header_parameters(text):
     return parameters
 
 
-def header_calls(text):
+def header_calls(text: str) -> dict[str, Call]:
     declared = re.findall(r'^(\w+) (rpeltp_\w+)\(([^)]*)\);', text, re.M)
     return {name: (header_parameters(parameters), c_type(result)) for result, name, parameters in declared}
 
 
-def header_numbers(text):
+def header_numbers(text: str) -> dict[str, int]:
     return {name: int(number) for name, number in re.findall(r'^#define RPELTP_(\w+) (\d+)\b', text, re.M)}
 
 
-def header_asserted(text):
-    """The sizes and places that the header asserts."""
+def header_asserted(text: str) -> tuple[dict[str, int], list[tuple[str, str, int]]]:
+    """The sizes and offsets that the header asserts."""
     sizes = {C_TYPES[name]: int(size) for name, size in re.findall(r'^RPELTP_SIZE\((\w+), (\d+)\);', text, re.M)}
     places = re.findall(r'^RPELTP_PLACE\((\w+), (\w+), (\d+)\);', text, re.M)
     return sizes, [(C_TYPES[name], field, int(place)) for name, field, place in places]
 
 
-def check_header(header):
-    """Nothing, if the header says what the source says."""
+def check_header(header: str) -> None:
+    """Raises Drift unless the header says what the source says."""
     text, structs = without_comments(header), source_structs()
     for name in structs:
         same(f'the fields of {C_NAMES[name]}', structs[name], header_structs(text).get(name))
@@ -180,9 +192,9 @@ def check_header(header):
     laid = {name: laid_out(name, structs) for name in structs}
     sizes, places = header_asserted(text)
     same('the sizes asserted', {name: size for name, (_, size, _) in laid.items()}, sizes)
-    same('the places asserted', [(name, *place) for name in laid for place in laid[name][0].items()], places)
+    same('the offsets asserted', [(name, *place) for name in laid for place in laid[name][0].items()], places)
     for name, (_, size, _) in laid.items():
-        what = f'the size of {C_NAMES[name]}, {size} bytes, in the words above it'
+        what = f'the size of {C_NAMES[name]}, {size} bytes, in the comment above it'
         found(rf'\b{size} bytes\b[^}}]*\}} {C_NAMES[name]};', header, what)
     for low, high in source_bounds():
         found(rf'from\s+{low}\s+to\s+{high}\b', header, f'the bounds {low} to {high} of a sound state')
@@ -192,7 +204,7 @@ def check_header(header):
 
 # ---- the declarations in Rust
 
-def as_rust(fields):
+def as_rust(fields: Iterable[tuple[str, str]]) -> Iterator[tuple[str, str]]:
     """Parameters with a pointer and a length for each slice."""
     for name, kind in fields:
         slice_ = re.fullmatch(r'&(mut)?\[(\w+)\]', kind)
@@ -203,7 +215,8 @@ def as_rust(fields):
             yield name, kind
 
 
-def check_raw(raw):
+def check_raw(raw: str) -> None:
+    """Raises Drift unless the declarations in Rust say what the source says."""
     text = re.sub(r'//.*', '', raw).replace('DecodeAnswer', 'Decoded')
     structs = re.findall(r'#\[repr\(C\)\]\npub struct (\w+) \{\n(.*?)\n\}', text, re.S)
     same('the structs in Rust', source_structs(), {name: rust_fields(body) for name, body in structs})
@@ -214,10 +227,10 @@ def check_raw(raw):
     same('the version in Rust', read('VERSION').strip(), version)
 
 
-# ---- that a drift is seen
+# ---- that a difference is noticed
 
-def altered(header):
-    """The header, wrong in one thing, and in what."""
+def altered(header: str) -> Iterator[tuple[str, str]]:
+    """What is altered, and the header with that one alteration."""
     for place in re.finditer(r'^    (\w+ \w+(?:\[\d+\])?;)(?=([^\n]*\n    )(\w+ \w+(?:\[\d+\])?;))', header, re.M):
         first, between, second = place.groups()
         exchanged = second + between + first
@@ -234,8 +247,8 @@ def altered(header):
             yield f'{word} as {other}', header[:place.start()] + other + header[place.end():]
 
 
-def altered_raw(raw):
-    """The declarations in Rust, wrong in one thing, and in what."""
+def altered_raw(raw: str) -> Iterator[tuple[str, str]]:
+    """What is altered, and the declarations in Rust with that one alteration."""
     for place in re.finditer(r'^    pub (\w+: [^,\n]+)(?=(,(?:\n    //[^\n]*)*\n    pub )(\w+: [^,\n]+),)', raw, re.M):
         first, between, second = place.groups()
         exchanged = second + between + first
@@ -246,7 +259,8 @@ def altered_raw(raw):
             yield f'{word} as {other}', raw[:place.start()] + other + raw[place.end():]
 
 
-def seen(check, text):
+def seen(check: Callable[[str], None], text: str) -> bool:
+    """Whether the check notices an alteration."""
     try:
         check(text)
     except (Drift, KeyError, ValueError):
@@ -254,7 +268,7 @@ def seen(check, text):
     return False
 
 
-def main():
+def main() -> int:
     for path, check, alter in ((HEADER, check_header, altered), (RAW, check_raw, altered_raw)):
         text = read(path)
         try:
@@ -265,9 +279,9 @@ def main():
         made = list(alter(text))
         missed = [what for what, other in made if not seen(check, other)]
         if missed or not made:
-            print(f'layout: {path}: not seen: {missed}')
+            print(f'layout: {path}: not noticed: {missed}')
             return 1
-        print(f'layout: {path} says what the source says; each of {len(made)} alterations is seen')
+        print(f'layout: {path} says what the source says; each of {len(made)} alterations is noticed')
     return 0
 
 
