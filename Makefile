@@ -22,7 +22,7 @@ run:
 	bin/rpeltp lister < recordings/speech.raw
 	@cat recordings/lines.txt
 
-# The documents are checked first, which takes seconds. Then come the proofs: the programs that rt ci makes are compared,
+# The documents are checked first, which takes seconds. Then come the proofs: what rt ci makes is compared later on,
 # so that nothing is proved twice. Where all goes well, the last line is that of rt ci.
 test:
 	outside/install_packages python3
