@@ -49,7 +49,7 @@ STOPS = {f'stop{n}' for n in range(1, 9)}
 PLACEHOLDERS = {'NAME', 'CRATE', 'LABEL', 'TYPE', 'FILE', 'TARGET', 'FOLDER', 'F', 'N', 'S', 'X', 'Y', 'D', 'DIR',
                 'ARCHIVE', 'VECTORS', 'ROOT', 'MODE', 'PROGRAM', 'WORDS', 'PATH', 'COMMAND', 'STAGE', 'DEFINITION'}
 # the commands of rt
-RT = {'check', 'prove', 'dev', 'staticlib', 'try', 'must-fail', 'ci', 'goals', 'mir', 'fmt', 'doc', 'version', 'selftest'}
+RT = set('check prove dev staticlib try must-fail ci goals mir fmt doc version selftest'.split())
 # Words of others, which no file here defines.
 OTHERS = {
     # words of the language of Rattle, and of its types
@@ -126,9 +126,15 @@ def rt_names(text: str) -> set[str]:
     code = re.sub(r'//.*', '', text)
     names = set(re.findall(r'\b(?:fn|struct|enum|const|static|mod|trait|type)\s+(\w+)', code))
     names.update(re.findall(r'(?:\bpub\s+|[({,]\s*|^\s*)(?:mut\s+)?(\w+)\s*:(?!:)', code, re.M))
-    for body in re.findall(r'\benum\s+\w+\s*\{(.*?)\n\}', code, re.S):
-        names.update(re.findall(r'^\s*(\w+)', body, re.M))
+    for _, variants in enums(text):
+        names |= variants
     return names | imported(text)
+
+
+def enums(text: str) -> Iterator[tuple[str, set[str]]]:
+    """The enums of a .rt or .rs file, with their variants."""
+    for name, body in re.findall(r'\benum\s+(\w+)\s*\{(.*?)\n\}', re.sub(r'//.*|#\[.*', '', text), re.S):
+        yield name, set(re.findall(r'^\s*(\w+)', body, re.M))
 
 
 def imported(text: str) -> set[str]:
@@ -166,8 +172,8 @@ def rust_names(text: str) -> set[str]:
     code = re.sub(r'//.*', '', text)
     names = set(re.findall(r'\b(?:fn|struct|enum|const|static|mod|type|trait)\s+(\w+)', code))
     names.update(re.findall(r'^\s*(?:pub\s+)?(\w+)\s*:(?!:)', code, re.M))
-    for body in re.findall(r'\benum\s+\w+\s*\{(.*?)\n\}', code, re.S):
-        names.update(re.findall(r'^\s*(\w+)', body, re.M))
+    for _, variants in enums(text):
+        names |= variants
     return names
 
 
@@ -307,7 +313,10 @@ def gather(root: str) -> Names:
                 if visible and path.startswith('crates/'):
                     line = next(i for i, each in enumerate(text.split('\n'), 1) if re.search(rf'\bfn {name}\b', each))
                     names.public.append((path.split('/')[1], type_, name, path, line))
-        if ending == '.rs':
+        if ending in ('.rt', '.rs') and defined:
+            for owner, variants in enums(text):
+                names.of_type.setdefault(owner, set()).update(variants)
+        if ending == '.rs' and defined:
             for owner, body in re.findall(r'^impl(?:<[^>]*>)?\s+(\w+).*?\{(.*?)^\}', text, re.S | re.M):
                 names.of_type.setdefault(owner, set()).update(re.findall(r'\bfn (\w+)', body))
     if 'crates.txt' in names.files:
@@ -360,18 +369,18 @@ def looks_like_name(word: str) -> bool:
 
 
 def qualified(names: Names, word: str) -> str | None:
-    """What is wrong with `crate::name`, `Type::function` or `crate::Type::function`."""
+    """What is wrong with `crate::name`, `Type::function`, `Type::variant` or `crate::Type::function`."""
     *path, last = word.split('::')
     owner = path[-1]
-    if len(path) > 1 and path[0] not in names.of_crate:
-        return f'there is no crate {path[0]}'
-    if owner in names.of_type and last in names.of_type[owner]:
+    if owner in OTHERS['Rattle, kit']:
         return None
+    if len(path) > 1 and (path[0] not in names.of_crate or owner not in names.of_crate[path[0]]):
+        return f'there is no {"::".join(path)}'
+    if owner in names.of_type:
+        return None if last in names.of_type[owner] else f'{owner} has no {last}'
     if owner in names.of_crate:
         return None if last in names.of_crate[owner] else f'crate {owner} has no {last}'
-    if owner in names.of_type:
-        return f'{owner} has no function {last}'
-    return None if {owner, last} <= names.words | ALLOWED else f'there is no crate or type {owner}'
+    return f'there is no crate or type {owner}'
 
 
 NUMBER = re.compile(r'[-+]?[\d.,]+(?:[iu]\d+|usize|[a-z])?|0x[0-9a-fA-F]+|[0-9A-F]{2}')
@@ -456,7 +465,7 @@ def wrong_among(names: Names, word: str, folder: str) -> str | None:
 def paths_in(names: Names, text: str) -> Iterator[tuple[int, str]]:
     """Paths in the text and in code blocks that begin with a folder of the repository."""
     tops = '|'.join(sorted(re.escape(path) for path in names.folders if '/' not in path))
-    for found in re.finditer(rf'(?<![\w./$~}}{{-])(?:{tops})/[\w./-]*[\w/]', text):
+    for found in re.finditer(rf'(?<![\w./$~}}{{-])(?<!\]\()(?:{tops})/[\w./-]*[\w/]', text):
         yield line_of(text, found.start()), found.group()
 
 
