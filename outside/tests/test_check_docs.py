@@ -153,7 +153,8 @@ class Names(Checkout):
             'l_z2', '«l_z2»', 'Found', 'Mark::Found', 'libc::read', 'place', '_at_', 'L-sum', 'Answer', 'number',
             'silent', 'stopped', 'inside', 'results', 'take', 'lpc', 'toZ', 'Inv-loop', 'tap_off', 'tap_off.edit',
             'e15_impulse', 'Rpe', 'Rpe.antt', 'run', 'SEED', 'rpeltp_home', 'RPELTP_SAMPLES', 'Signs', 'ending',
-            'Signs::all', 'rpeltp', 'counts', 'SAMPLES', 'stop3', 'RPELTP_SEQUENCES', 'specs', 'rpe_', 'rpe_..', 'target/bin', 'docs/ROOMS.md', 'ROOMS.md', 'specs/Rpe.antt',
+            'Signs::all', 'rpeltp', 'counts', 'SAMPLES', 'stop3', 'RPELTP_SEQUENCES', 'specs', 'rpe_', 'rpe_..',
+            'target/bin', 'docs/ROOMS.md', 'ROOMS.md', 'specs/Rpe.antt',
             'crates/NAME/src/lib.rt', '.antt', 'outside/vectors/enc/e15_impulse', 'Makefile', '--frames'), [])
 
     def test_names_that_do_not(self) -> None:

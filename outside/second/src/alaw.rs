@@ -1,11 +1,11 @@
-//! 02, W-204: A-law front and back, by its rule.
+//! Request W-204: A-law front and back, by its rule.
 
-/// 02, W-204: "invert the even bits (exclusive or with 55 hex)", in either direction.
+/// Request W-204: "invert the even bits (exclusive or with 55 hex)", in either direction.
 fn invert_even_bits(code: u8) -> u8 {
     code ^ 0x55
 }
 
-/// 02, W-204: the magnitude of a segment and a step, at most 4032.
+/// Request W-204: the magnitude of a segment and a step, at most 4032.
 fn magnitude(segment: i16, step: i16) -> i16 {
     if segment == 0 {
         2 * step + 1
@@ -14,7 +14,7 @@ fn magnitude(segment: i16, step: i16) -> i16 {
     }
 }
 
-/// 02, W-204: expansion of a code to 13 bits.
+/// Request W-204: expansion of a code to 13 bits.
 pub fn expand(code: u8) -> i16 {
     let bits = i16::from(invert_even_bits(code));
     let segment = (bits >> 4) & 7;
@@ -27,7 +27,7 @@ pub fn expand(code: u8) -> i16 {
     }
 }
 
-/// 02, W-204: the segment and the step of a value that is not negative.
+/// Request W-204: the segment and the step of a value that is not negative.
 fn segment_and_step(value: i32) -> (u8, u8) {
     if value < 32 {
         return (0, (value / 2) as u8);
@@ -42,7 +42,7 @@ fn segment_and_step(value: i32) -> (u8, u8) {
     (7, 15)
 }
 
-/// 02, W-204: compression on the 13-bit scale, -4096 to 4095, of which -4096 counts as 4095 too.
+/// Request W-204: compression on the 13-bit scale, -4096 to 4095, of which -4096 counts as 4095 too.
 pub fn compress(v: i16) -> u8 {
     let v = i32::from(v);
     let (top_bit, value) = if v < 0 { (0, -v - 1) } else { (0x80, v) };
@@ -50,7 +50,7 @@ pub fn compress(v: i16) -> u8 {
     invert_even_bits(top_bit | segment << 4 | step)
 }
 
-/// 02, W-204: an expanded value times 8 is the sample handed to encode.
+/// Request W-204: an expanded value times 8 is the sample handed to encode.
 pub fn samples_of_octets<const N: usize>(octets: &[u8; N]) -> [i16; N] {
     let mut samples = [0; N];
     for n in 0..N {
@@ -59,7 +59,7 @@ pub fn samples_of_octets<const N: usize>(octets: &[u8; N]) -> [i16; N] {
     samples
 }
 
-/// 02, W-204: an output sample divided by 8, rounding down, is what gets compressed.
+/// Request W-204: an output sample divided by 8, rounding down, is what gets compressed.
 pub fn octets_of_samples<const N: usize>(samples: &[i16; N]) -> [u8; N] {
     let mut octets = [0; N];
     for n in 0..N {
@@ -68,7 +68,7 @@ pub fn octets_of_samples<const N: usize>(samples: &[i16; N]) -> [u8; N] {
     octets
 }
 
-/// 02, W-204: worked out by hand from its rule.
+/// Request W-204: worked out by hand from its rule.
 #[cfg(test)]
 mod tests {
     use super::*;

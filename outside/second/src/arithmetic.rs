@@ -61,7 +61,7 @@ pub fn abs(var1: i16) -> i16 {
 
 /// 4.1 and the NOTE of 4.2.5: div(num, denum), with denum >= num >= 0.
 pub fn div(num: i16, denum: i16) -> i16 {
-    // House rule of 01: the loop would give 32767 for 0 by 0.
+    // House rules, 'Arithmetic': the loop would give 32767 for 0 by 0.
     if num == 0 {
         return 0;
     }

@@ -1,4 +1,4 @@
-//! 01, "Refusal numbers", and 02: one call a record of 768 words, from any state.
+//! House rules, 'Refusals', and request W-204: one call a record of 768 words, from any state.
 
 use crate::alaw::{octets_of_samples, samples_of_octets};
 use crate::codewords::{from_codewords, to_codewords};
@@ -31,7 +31,7 @@ pub fn call(record: &Record) -> Option<Record> {
     Some(answer)
 }
 
-/// 01: encode refuses by 1, 2 and 3, and alters the 76 codewords and the state.
+/// House rules, 'Refusals': encode refuses by 1, 2 and 3, and alters the 76 codewords and the state.
 fn encode_call(record: &Record, lent: &Lent, answer: &mut Record) {
     let mut state = encoder_state_of(record);
     if lent.samples != 160 {
@@ -46,7 +46,7 @@ fn encode_call(record: &Record, lent: &Lent, answer: &mut Record) {
     }
 }
 
-/// 01: what an encode that is not refused answers.
+/// House rules, 'Refusals': what an encode that is not refused answers.
 fn put_encoded(answer: &mut Record, state: &EncoderState, encoded: &Encoded) {
     answer[ENDING] = match encoded.ending {
         Ending::Silent => 1,
@@ -60,7 +60,7 @@ fn put_encoded(answer: &mut Record, state: &EncoderState, encoded: &Encoded) {
     put_codewords(answer, &to_codewords(&encoded.frame));
 }
 
-/// 01: decode refuses by 1, 2 and 3, and alters the 160 samples and the state.
+/// House rules, 'Refusals': decode refuses by 1, 2 and 3, and alters the 160 samples and the state.
 fn decode_call(record: &Record, lent: &Lent, answer: &mut Record) {
     let mut state = decoder_state_of(record);
     if lent.samples != 160 {
@@ -77,7 +77,7 @@ fn decode_call(record: &Record, lent: &Lent, answer: &mut Record) {
     }
 }
 
-/// 01: pack refuses by 2, 4 and 5, and alters the 33 bytes.
+/// House rules, 'Refusals': pack refuses by 2, 4 and 5, and alters the 33 bytes.
 fn pack_call(record: &Record, lent: &Lent, answer: &mut Record) {
     if lent.codewords != 76 {
         answer[REFUSAL] = 2;
@@ -91,7 +91,7 @@ fn pack_call(record: &Record, lent: &Lent, answer: &mut Record) {
     }
 }
 
-/// 01: unpack refuses by 2, 4 and 6, and alters the 76 codewords.
+/// House rules, 'Refusals': unpack refuses by 2, 4 and 6, and alters the 76 codewords.
 fn unpack_call(record: &Record, lent: &Lent, answer: &mut Record) {
     if lent.codewords != 76 {
         answer[REFUSAL] = 2;
@@ -105,7 +105,7 @@ fn unpack_call(record: &Record, lent: &Lent, answer: &mut Record) {
     }
 }
 
-/// 02, W-204: as encode, of the samples that 160 octets stand for; refusal 1 counts octets.
+/// Request W-204: as encode, of the samples that 160 octets stand for; refusal 1 counts octets.
 fn encode_alaw_call(record: &Record, lent: &Lent, answer: &mut Record) {
     let mut state = encoder_state_of(record);
     if lent.octets != 160 {
@@ -121,7 +121,7 @@ fn encode_alaw_call(record: &Record, lent: &Lent, answer: &mut Record) {
     }
 }
 
-/// 02, W-204: as decode, to 160 octets; refused or not, the room is answered as octets.
+/// Request W-204: as decode, to 160 octets; refused or not, the buffer is answered as octets.
 fn decode_alaw_call(record: &Record, lent: &Lent, answer: &mut Record) {
     let mut state = decoder_state_of(record);
     clear_high_halves(answer);

@@ -26,7 +26,7 @@ pub fn decoder_home() -> DecoderState {
     }
 }
 
-/// 01, "Refusal numbers": when a decoder state is sound.
+/// House rules, 'Soundness': when a decoder state is sound.
 pub fn decoder_state_is_sound(state: &DecoderState) -> bool {
     (40..=120).contains(&state.nrp)
 }

@@ -34,13 +34,13 @@ pub fn encoder_home() -> EncoderState {
     }
 }
 
-/// 01, "Refusal numbers": when an encoder state is sound.
+/// House rules, 'Soundness': when an encoder state is sound.
 pub fn encoder_state_is_sound(state: &EncoderState) -> bool {
     let distance = i64::from(state.L_z2) - 32768 * i64::from(state.z1);
     (-16384..=16380).contains(&state.z1) && (-536740337..=536871409).contains(&distance)
 }
 
-/// 4.2: what is made of 160 samples; only the frame is sent. 02, W-203: which lags are found.
+/// 4.2: what is made of 160 samples; only the frame is sent. Request W-203: which lags are found.
 pub struct Encoded {
     pub frame: Frame,
     pub ending: Ending,
@@ -77,7 +77,7 @@ pub fn encode(state: &mut EncoderState, sop: &[i16; 160]) -> Encoded {
 }
 
 /// 4.2.11 to 4.2.18: encode the sub-segment of 40 samples that starts at a place of the frame;
-/// 02, W-203: and if its lag is found.
+/// Request W-203: and if its lag is found.
 fn encode_sub_segment(frame_d: &[i16; 160], start: usize, dp: &mut [i16; 120]) -> (SubFrame, bool) {
     let mut d = [0; 40];
     for k in 0..=39 {

@@ -1,19 +1,19 @@
-//! 01, "The lister and its lines".
+//! House rules, 'Listing'.
 
 use crate::encoder::{encode, encoder_home, Encoded};
 use crate::lpc::Ending;
 use crate::words::words_of;
 use std::io::{self, Write};
 
-/// 01: the lister stops after this many frames.
+/// House rules, 'Listing': the lister stops after this many frames.
 const LIMIT: usize = 1_000_000;
 
-/// 02, W-203: when the mark of sub-frame j, from 0, is "rule", and not "found".
+/// Request W-203: when the mark of sub-frame j, from 0, is "rule", and not "found".
 pub fn mark_is_rule(encoded: &Encoded, j: usize) -> bool {
     !encoded.lag_found[j]
 }
 
-/// 01: the whole listing of the samples in the input; gives the bytes counted as left over.
+/// House rules, 'Listing': the whole listing of the samples in the input; gives the bytes counted as left over.
 pub fn list(input: &[u8], output: &mut dyn Write) -> io::Result<usize> {
     writeln!(output, "RPELTP\t1")?;
     let mut state = encoder_home();
@@ -32,7 +32,7 @@ pub fn list(input: &[u8], output: &mut dyn Write) -> io::Result<usize> {
     Ok(rest)
 }
 
-/// 01: the F line of a frame and its four S lines.
+/// House rules, 'Listing': the F line of a frame and its four S lines.
 fn list_frame(output: &mut dyn Write, number: usize, encoded: &Encoded) -> io::Result<()> {
     write!(output, "F\t{}\t", number)?;
     match encoded.ending {
@@ -51,7 +51,7 @@ fn list_frame(output: &mut dyn Write, number: usize, encoded: &Encoded) -> io::R
     Ok(())
 }
 
-/// 01: the rest of an S line, from the mark on.
+/// House rules, 'Listing': the rest of an S line, from the mark on.
 fn list_sub_frame(output: &mut dyn Write, encoded: &Encoded, j: usize) -> io::Result<()> {
     if mark_is_rule(encoded, j) {
         write!(output, "\trule")?;

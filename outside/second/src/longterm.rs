@@ -4,7 +4,7 @@
 use crate::arithmetic::*;
 use crate::tables::{DLB, QLB};
 
-/// 4.2.11: the LTP lag Nc and the LTP gain bc of a sub-segment; 02, W-203: if the lag is found.
+/// 4.2.11: the LTP lag Nc and the LTP gain bc of a sub-segment; request W-203: if the lag is found.
 pub fn ltp_parameters(d: &[i16; 40], dp: &[i16; 120]) -> (i16, i16, bool) {
     let scal = optimum_scaling(d);
     let mut wt = [0; 40];
@@ -12,7 +12,7 @@ pub fn ltp_parameters(d: &[i16; 40], dp: &[i16; 120]) -> (i16, i16, bool) {
         wt[k] = shr(d[k], scal);
     }
     let (Nc, mut L_max) = maximum_cross_correlation(&wt, dp);
-    // 02, W-203: some lag has a positive sum before the rescaling.
+    // Request W-203: some lag has a positive sum before the rescaling.
     let lag_found = L_max > 0;
     // Rescaling of L_max.
     L_max = L_shr(L_max, sub(6, scal));
@@ -154,7 +154,7 @@ pub fn long_term_synthesis(Nr: i16, bcr: i16, erp: &[i16; 40], kept: &mut [i16; 
     result
 }
 
-/// 02, W-203: worked out by hand; all that is not 0 is d[0] and dp[-40].
+/// Request W-203: worked out by hand; all that is not 0 is d[0] and dp[-40].
 #[cfg(test)]
 mod tests {
     use super::*;

@@ -3,7 +3,7 @@
 use crate::arithmetic::*;
 use crate::tables::{A, B, MAC, MIC};
 
-/// How the recursion of 4.2.5 ended; the names are those of 01.
+/// How the recursion of 4.2.5 ended; the names are those of the house rules, 'Endings'.
 #[derive(Clone, Copy)]
 pub enum Ending {
     Silent,

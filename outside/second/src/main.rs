@@ -3,7 +3,7 @@
 //! A-law expand, compress, compress-samples, encode-alaw or decode-alaw.
 
 #![forbid(unsafe_code)]
-// The names and the loops are those of 001.
+// The names and the loops are those of the standard.
 #![allow(non_snake_case, clippy::needless_range_loop, clippy::manual_memcpy)]
 
 mod alaw;
@@ -110,13 +110,13 @@ fn decode(input: &[u8], output: &mut dyn Write) -> io::Result<i16> {
     Ok(0)
 }
 
-/// 01, "The lister and its lines".
+/// House rules, 'Listing'.
 fn list(input: &[u8], output: &mut dyn Write) -> io::Result<i16> {
     tell_rest(listing::list(input, output)?);
     Ok(0)
 }
 
-/// 01: 76 codewords a frame to 33 bytes a frame.
+/// House rules, 'Packing': 76 codewords a frame to 33 bytes a frame.
 fn pack(input: &[u8], output: &mut dyn Write) -> io::Result<i16> {
     for bytes in input.chunks_exact(152) {
         match packing::pack(&words_of(bytes)) {
@@ -128,7 +128,7 @@ fn pack(input: &[u8], output: &mut dyn Write) -> io::Result<i16> {
     Ok(0)
 }
 
-/// 01: 33 bytes a frame to 76 codewords a frame.
+/// House rules, 'Packing': 33 bytes a frame to 76 codewords a frame.
 fn unpack(input: &[u8], output: &mut dyn Write) -> io::Result<i16> {
     for bytes in input.chunks_exact(33) {
         let mut packed = [0; 33];
@@ -154,7 +154,7 @@ fn calls(input: &[u8], output: &mut dyn Write) -> io::Result<i16> {
     Ok(0)
 }
 
-/// 02, W-204: each octet to the sample that it stands for.
+/// Request W-204: each octet to the sample that it stands for.
 fn expand(input: &[u8], output: &mut dyn Write) -> io::Result<i16> {
     for octet in input {
         write_words(output, &samples_of_octets(&[*octet]))?;
@@ -162,7 +162,7 @@ fn expand(input: &[u8], output: &mut dyn Write) -> io::Result<i16> {
     Ok(0)
 }
 
-/// 02, W-204: each word, a value on the 13-bit scale, to an octet.
+/// Request W-204: each word, a value on the 13-bit scale, to an octet.
 fn compress(input: &[u8], output: &mut dyn Write) -> io::Result<i16> {
     for bytes in input.chunks_exact(2) {
         let octets = words_of::<1>(bytes).map(alaw::compress);
@@ -172,7 +172,7 @@ fn compress(input: &[u8], output: &mut dyn Write) -> io::Result<i16> {
     Ok(0)
 }
 
-/// 02, W-204: each sample to an octet.
+/// Request W-204: each sample to an octet.
 fn compress_samples(input: &[u8], output: &mut dyn Write) -> io::Result<i16> {
     for bytes in input.chunks_exact(2) {
         output.write_all(&octets_of_samples(&words_of::<1>(bytes)))?;
@@ -181,7 +181,7 @@ fn compress_samples(input: &[u8], output: &mut dyn Write) -> io::Result<i16> {
     Ok(0)
 }
 
-/// 02, W-204: 160 octets a frame to 76 codewords a frame, from home.
+/// Request W-204: 160 octets a frame to 76 codewords a frame, from home.
 fn encode_alaw(input: &[u8], output: &mut dyn Write) -> io::Result<i16> {
     let mut state = encoder::encoder_home();
     for bytes in input.chunks_exact(160) {
@@ -194,7 +194,7 @@ fn encode_alaw(input: &[u8], output: &mut dyn Write) -> io::Result<i16> {
     Ok(0)
 }
 
-/// 02, W-204: 76 codewords a frame to 160 octets a frame, from home.
+/// Request W-204: 76 codewords a frame to 160 octets a frame, from home.
 fn decode_alaw(input: &[u8], output: &mut dyn Write) -> io::Result<i16> {
     let mut state = decoder::decoder_home();
     for bytes in input.chunks_exact(152) {

@@ -1,9 +1,9 @@
-//! Table 1.1 and 01's house rule: the 260 bits of a frame in 33 bytes, b1 lowest in the first.
+//! Table 1.1 and house rules, 'Packing': the 260 bits of a frame in 33 bytes, b1 lowest in the first.
 
 use crate::codewords::valid_bits;
 use crate::tables::WIDTHS;
 
-/// Table 1.1 and 01: the 33 bytes, or refusal 5 for a codeword wider than its field.
+/// Table 1.1 and house rules, 'Packing': the 33 bytes, or refusal 5 for a codeword wider than its field.
 pub fn pack(codewords: &[i16; 76]) -> Result<[u8; 33], i16> {
     for n in 0..=75 {
         if valid_bits(codewords[n], WIDTHS[n]) != codewords[n] {
@@ -24,7 +24,7 @@ pub fn pack(codewords: &[i16; 76]) -> Result<[u8; 33], i16> {
     Ok(bytes)
 }
 
-/// Table 1.1 and 01: the 76 codewords, or refusal 6 for a spare bit that is 1.
+/// Table 1.1 and house rules, 'Packing': the 76 codewords, or refusal 6 for a spare bit that is 1.
 pub fn unpack(bytes: &[u8; 33]) -> Result<[i16; 76], i16> {
     if bytes[32] >> 4 != 0 {
         return Err(6);

@@ -75,7 +75,7 @@ fn put_words_at(record: &mut Record, start: usize, words: &[i16]) {
     }
 }
 
-/// A record: an array that counts from 1, as 001 counts LARpp.
+/// A record: an array that counts from 1, as the standard counts LARpp.
 fn counted_from_1(words: [i16; 8]) -> [i16; 9] {
     let mut array = [0; 9];
     for i in 1..=8 {

@@ -1,4 +1,4 @@
-//! 4.4: the tables of clause 4. Those that 001 counts from 1 have an unused place 0.
+//! 4.4: the tables of clause 4. Those that the standard counts from 1 have an unused index 0.
 
 /// Table 4.1: factors of the quantization of the Log.-Area Ratios.
 pub const A: [i16; 9] = [0, 20480, 20480, 20480, 20480, 13964, 15360, 8534, 9036];

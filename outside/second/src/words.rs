@@ -1,8 +1,8 @@
-//! 01, "Numbers handed over": words of 16 bits as bytes, low byte first.
+//! House rules, 'Samples and codewords': words of 16 bits as bytes, low byte first.
 
 use std::io::{self, Write};
 
-/// 01: the N words that 2N bytes hold.
+/// House rules, 'Samples and codewords': the N words that 2N bytes hold.
 pub fn words_of<const N: usize>(bytes: &[u8]) -> [i16; N] {
     let mut words = [0; N];
     for n in 0..N {
@@ -11,7 +11,7 @@ pub fn words_of<const N: usize>(bytes: &[u8]) -> [i16; N] {
     words
 }
 
-/// 01: write words as bytes.
+/// House rules, 'Samples and codewords': write words as bytes.
 pub fn write_words(output: &mut dyn Write, words: &[i16]) -> io::Result<()> {
     for word in words {
         output.write_all(&word.to_le_bytes())?;

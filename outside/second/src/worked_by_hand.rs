@@ -1,4 +1,4 @@
-//! 01, "Worked by hand": its twelve rows, in its order.
+//! House rules, 'Worked rows': the twelve rows, in their order.
 
 use crate::arithmetic::{div, mult, mult_r, norm};
 use crate::codewords::to_codewords;
