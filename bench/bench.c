@@ -1,12 +1,13 @@
-/* bench.c: holds several codecs to the same bits, and then times them in one process, turn by turn, each by the best of
-   many short rounds.
+/* bench.c: compares the bits of several codecs, and then times them in one process, one after the other, each by the
+   best of many short rounds.
 
        bench ROUNDS { NAME SAMPLES } { NAME SAMPLES } { NAME SAMPLES } { KIND NAME LIBRARY }..
 
    Three materials, each a name and a file of 16-bit samples: all are compared, the first two are timed, the first is
-   what the channels hear. Then the codecs, as codecs.h has them. The first that is there is the reference, and makes
-   what all decode. Status 1: ours differs from it in a bit, and nothing is timed. On standard output are lines of words
-   with tabs between them: missing, reference, bits, best, turns, refused. tables.py makes tables of them. */
+   used with several channels. Then the codecs, as codecs.h has them. The first one that is not missing is the
+   reference: all decode what it encodes. Status 1: ours differs from it in a bit, and nothing is timed. On standard
+   output are lines of words with tabs between them: missing, reference, bits, best, turns, refused. tables.py makes
+   tables of them. */
 #define _POSIX_C_SOURCE 200809L
 #include "codecs.h"
 #include <stdio.h>
@@ -19,7 +20,7 @@ enum { BEFORE_CODECS = 2 + 2 * MATERIALS }; /* words of the command line */
 static const size_t CHANNELS[] = {1, 8, MOST_CHANNELS};
 enum { COUNTS = sizeof CHANNELS / sizeof *CHANNELS };
 
-/* What is encoded, and what the reference makes of it, in each layout, which is what is decoded. */
+/* What is encoded, and what the reference makes of it, in each layout: that is decoded. */
 typedef struct {
     const char *name;
     int16_t samples[DECODED * SAMPLES], words[DECODED * CODEWORDS];
@@ -218,7 +219,7 @@ static bool is_ours(const codec *c)
     return c->layout != RFC;
 }
 
-/* Holds all codecs to the reference's words, and says in how many frames each differs. Whether ours does not. */
+/* Compares all codecs with the reference's words, and says in how many frames each differs. Whether ours has none. */
 static bool compared(const job *j)
 {
     static int16_t wanted[DECODED * SAMPLES], words[DECODED * SAMPLES], left[DECODED * SAMPLES];
@@ -287,7 +288,7 @@ static size_t line_up(const job *jobs, size_t count, size_t rounds, runner *runn
     return lined;
 }
 
-/* Times some jobs, each by every codec that can do it, turn by turn, and says the best and the median of each. */
+/* Times some jobs, each by every codec that can do it, in turn, and says the best and the median of each. */
 static void race(const char *kind, const job *jobs, size_t count, size_t rounds)
 {
     static int16_t left[DECODED * SAMPLES];
@@ -341,7 +342,7 @@ int main(int count, char **words)
     size_t rounds = count > BEFORE_CODECS ? strtoul(words[1], NULL, 10) : 0;
     if (rounds == 0) fail("wanted", "ROUNDS { NAME SAMPLES } of three materials { KIND NAME LIBRARY }..");
     codec_count = codecs_of(words + BEFORE_CODECS, count - BEFORE_CODECS, codecs);
-    if (codec_count == 0 || !codecs[0].encode) fail("nothing to time", "there is no codec that all could be held to");
+    if (codec_count == 0 || !codecs[0].encode) fail("nothing to time", "there is no codec to compare with");
     printf("reference\t%s\n", codecs[0].name);
     for (size_t m = 0; m < MATERIALS; m++) {
         read_samples(&materials[m], words[2 + 2 * m], words[3 + 2 * m]);

@@ -1,5 +1,4 @@
-/* codecs.h: one way to call each codec of the benchmark, so that all are held to the same bits and timed by the same
-   loop. */
+/* codecs.h: one way to call each codec of the benchmark, so that all are compared and timed by the same loop. */
 #ifndef CODECS_H
 #define CODECS_H
 #include <stdbool.h>

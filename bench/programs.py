@@ -22,7 +22,7 @@ PEERS = {'encode': 'toast of Debian', 'decode': 'untoast of Debian'}
 
 
 class Missing(Exception):
-    """Why a program cannot be had, in words."""
+    """Why a program is missing, in words."""
 
 
 def ours(name: str, build: str) -> str:

@@ -1,6 +1,6 @@
 /* state.c: says how many bytes each codec keeps for a channel: those of the block that holds its state, and all that it
-   has asked the allocator for once a first frame is through. A program apart from bench, since it counts in the
-   allocator's place, which takes time.
+   has asked the allocator for once a first frame is through. It is not a part of bench, since counting in the
+   allocator takes time.
 
        state { KIND NAME LIBRARY }.. */
 #include "codecs.h"

@@ -1,11 +1,11 @@
 /* rpeltp.h: GSM full-rate speech (RPE-LTP, ETS 300 961), encoder and decoder, from C11 or C++11 on.
 
    The code behind these calls is proved: every call ends, on any samples, codewords and state;
-   what is wrong is refused by number, and a refusal hands back the state it was given and writes
+   what is wrong is refused by number, and a refusal returns the state it was given and writes
    nothing; what is not refused is the standard's clause 4, bit for bit. Nothing proves this
-   file: a test holds it to the source, field by field.
+   file: a test compares it with the source, field by field.
 
-   What a caller must see to, since nothing can check it:
+   What a caller must ensure, since nothing can check it:
    - a pointer is valid for as many elements as the length beside it says, and aligned for its
      type;
    - it may be null exactly where that length is 0;
@@ -14,7 +14,7 @@
    Lengths count elements, not bytes, and may have any value: a wrong one is refused.
 
    There is nothing to open and nothing to free: a state is a plain value that the caller keeps,
-   and a call hands the next one back. The library holds no memory of its own and allocates none,
+   and a call returns the next one. The library has no memory of its own and allocates none,
    so any thread may make any call at any time. One buffer or one state variable must not be
    written by one thread while another uses it, as with any variable in C.
 
@@ -51,7 +51,7 @@ extern "C" {
 #define RPELTP_COMPLETE 2  /* all eight were */
 #define RPELTP_STOPPED 16  /* RPELTP_STOPPED + n: it stopped at the n-th; 16 itself never comes */
 
-/* What stands behind the lag of a sub-frame. A lag of 40 with gain code 0 may be either: only
+/* Whether the lag of a sub-frame was measured. A lag of 40 with gain code 0 may be either: only
    the mark tells. */
 #define RPELTP_NO_MARK 0 /* the call was refused */
 #define RPELTP_RULE 1    /* no lag had a positive sum: 40 is where the search starts, no pitch */
@@ -81,7 +81,7 @@ typedef struct {
 
 /* What encode answers, 288 bytes. Ending and marks are 0 exactly where number is not. */
 typedef struct {
-    rpeltp_encoder state; /* to go on with; refused: the one that was handed in */
+    rpeltp_encoder state; /* for the next call; refused: the one that was passed in */
     uint16_t number;      /* RPELTP_DONE, or RPELTP_REFUSED_SAMPLES, _CODEWORDS, _STATE */
     uint16_t ending;      /* RPELTP_SILENT, RPELTP_COMPLETE, RPELTP_STOPPED + n; RPELTP_NO_ENDING */
     uint8_t marks[4];     /* of the four sub-frames: RPELTP_RULE, RPELTP_FOUND; RPELTP_NO_MARK */
@@ -89,7 +89,7 @@ typedef struct {
 
 /* What decode answers, 278 bytes. */
 typedef struct {
-    rpeltp_decoder state; /* to go on with; refused: the one that was handed in */
+    rpeltp_decoder state; /* for the next call; refused: the one that was passed in */
     uint16_t number;      /* RPELTP_DONE, or RPELTP_REFUSED_SAMPLES, _CODEWORDS, _STATE */
 } rpeltp_decode_answer;
 
@@ -129,8 +129,8 @@ uint16_t rpeltp_pack(const int16_t *codewords, size_t codewords_len,
 uint16_t rpeltp_unpack(const uint8_t *bytes, size_t bytes_len,
                        int16_t *codewords, size_t codewords_len);
 
-/* Sizes and places, as the library has them: a compiler that lays a struct out otherwise is
-   refused here. No struct has padding. */
+/* Sizes and offsets, as the library has them: a compiler with another layout is refused here. No
+   struct has padding. */
 #ifdef __cplusplus
 #define RPELTP_ASSERT(fact, name) static_assert(fact, name)
 #else
@@ -138,7 +138,7 @@ uint16_t rpeltp_unpack(const uint8_t *bytes, size_t bytes_len,
 #endif
 #define RPELTP_SIZE(type, bytes) RPELTP_ASSERT(sizeof(type) == (bytes), #type " has another size")
 #define RPELTP_PLACE(type, field, byte) \
-    RPELTP_ASSERT(offsetof(type, field) == (byte), #type "." #field " has another place")
+    RPELTP_ASSERT(offsetof(type, field) == (byte), #type "." #field " has another offset")
 RPELTP_SIZE(rpeltp_encoder, 280);
 RPELTP_PLACE(rpeltp_encoder, l_z2, 0);
 RPELTP_PLACE(rpeltp_encoder, z1, 4);

@@ -81,16 +81,18 @@ ALLOWED = {word for words in OTHERS.values() for word in words}
 # ---- the files
 
 def tracked(root: str) -> list[str]:
-    """The paths of the files that git tracks, and of new ones that it does not ignore; without git all that there are,
-    but for what is made."""
+    """The paths of the files that git tracks, and of new ones that it does not ignore. Without git: of all files, except
+    those that commands make."""
     command = ['git', '-C', root, 'ls-files', '--cached', '--others', '--exclude-standard', '-z']
-    done = subprocess.run(command, stdout=subprocess.PIPE, stderr=subprocess.DEVNULL, text=True)
-    if done.returncode == 0 and done.stdout:
-        listed = done.stdout.split('\0')
-    else:
-        found = ((folder, name) for folder, _, names in os.walk(root) for name in names)
-        listed = [os.path.relpath(os.path.join(folder, name), root) for folder, name in found]
-        listed = [path for path in listed if path.split(os.sep)[0] not in (*MADE, '.git') and '__pycache__' not in path]
+    try:
+        done = subprocess.run(command, stdout=subprocess.PIPE, stderr=subprocess.DEVNULL, text=True)
+        listed = done.stdout.split('\0') if done.returncode == 0 else []
+    except OSError:
+        listed = []
+    if not listed:
+        for folder, folders, names in os.walk(root):
+            folders[:] = [name for name in folders if name not in (*MADE, '.git', '__pycache__', '.mypy_cache')]
+            listed += [os.path.relpath(os.path.join(folder, name), root) for name in names]
     return sorted({path for path in listed if path and os.path.isfile(os.path.join(root, path))})
 
 

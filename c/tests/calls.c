@@ -2,12 +2,12 @@
    words low byte first, asks for one call; a record of the same layout answers it. The calls are
    1 encode, 2 decode, 3 pack, 4 unpack, 5 encode_alaw, 6 decode_alaw.
 
-   A record: the head, 48 words; 16 house values; the state, 240; room for 168 samples or octets,
-   for 168 samples of a residual, for 84 codewords, for 40 bytes; 4 words not used. An octet or a
-   byte is the low half of its word. The head asks: the call; how many samples or octets,
-   codewords and bytes are lent. It answers: the refusal number, 255 where there is no such call;
-   the ending; the four marks; and 0 in all its other words. What is not the head is answered as
-   asked, but for what the call changes. */
+   A record: the head, 48 words; 16 words not used; the state, 240; 168 samples or octets; 168
+   samples of a residual; 84 codewords; 40 bytes; 4 words not used. An octet or a byte is the low
+   half of its word. The head asks: the call; how many samples or octets, codewords and bytes are
+   passed. It answers: the refusal number, 255 where there is no such call; the ending; the four
+   marks; and 0 in all its other words. All other words are answered as they were asked, except
+   those that the call changes. */
 #include <stdio.h>
 #include <string.h>
 #include "fenced.h"
@@ -16,41 +16,41 @@
 enum { STATE = 64, SAMPLES = 304, CODEWORDS = 640, BYTES = 724, WORDS = 768 };
 enum { MOST_SAMPLES = 168, MOST_CODEWORDS = 84, MOST_BYTES = 40 };
 
-/* The record, what is lent of its rooms, and the fences that the lent elements are moved up to. */
+/* The record, how many elements of each buffer are passed, and the fences that they are moved up to. */
 static int16_t w[WORDS];
 static size_t samples_len, codewords_len, bytes_len;
 static unsigned char *first_fence, *second_fence;
 
-static size_t lent(int16_t asked, size_t most)
+static size_t passed(int16_t asked, size_t most)
 {
     size_t n = asked < 0 ? 0 : (size_t)asked;
     return n < most ? n : most;
 }
 
-/* So many words of the record from a place on, before a fence, and back. */
+/* So many words of the record from an index on, before a fence, and back. */
 static int16_t *words_out(unsigned char *fence, int at, size_t count)
 {
-    int16_t *room = before(fence, 2 * count);
-    if (room != NULL) memcpy(room, w + at, 2 * count);
-    return room;
+    int16_t *buffer = before(fence, 2 * count);
+    if (buffer != NULL) memcpy(buffer, w + at, 2 * count);
+    return buffer;
 }
 
-static void words_back(const int16_t *room, int at, size_t count)
+static void words_back(const int16_t *buffer, int at, size_t count)
 {
-    if (room != NULL) memcpy(w + at, room, 2 * count);
+    if (buffer != NULL) memcpy(w + at, buffer, 2 * count);
 }
 
-/* The low halves of so many words, and back; all that there is room for comes back as octets. */
+/* The low halves of so many words, and back; all words of the buffer come back as octets. */
 static uint8_t *octets_out(unsigned char *fence, int at, size_t count)
 {
-    uint8_t *room = before(fence, count);
-    for (size_t i = 0; i < count; i++) room[i] = (uint8_t)w[at + i];
-    return room;
+    uint8_t *buffer = before(fence, count);
+    for (size_t i = 0; i < count; i++) buffer[i] = (uint8_t)w[at + i];
+    return buffer;
 }
 
-static void octets_back(const uint8_t *room, int at, size_t count, size_t most)
+static void octets_back(const uint8_t *buffer, int at, size_t count, size_t most)
 {
-    for (size_t i = 0; i < most; i++) w[at + i] = i < count ? room[i] : (uint8_t)w[at + i];
+    for (size_t i = 0; i < most; i++) w[at + i] = i < count ? buffer[i] : (uint8_t)w[at + i];
 }
 
 static void answer_number(uint16_t number)
@@ -158,9 +158,9 @@ static void decode_alaw(void)
 static void call(void)
 {
     int16_t asked = w[0];
-    samples_len = lent(w[1], MOST_SAMPLES);
-    codewords_len = lent(w[2], MOST_CODEWORDS);
-    bytes_len = lent(w[3], MOST_BYTES);
+    samples_len = passed(w[1], MOST_SAMPLES);
+    codewords_len = passed(w[2], MOST_CODEWORDS);
+    bytes_len = passed(w[3], MOST_BYTES);
     switch (asked) {
     case 1: encode(); break;
     case 2: decode(); break;

@@ -1,5 +1,5 @@
-/* Rooms that end where the memory ends: a call that reads or writes one element too many does
-   not come back. */
+/* Buffers that end where the memory ends: a call that reads or writes one element too many is
+   ended by the system. */
 #ifndef FENCED_H
 #define FENCED_H
 #include <stddef.h>

@@ -1,7 +1,7 @@
 /* Every wrong length, through the boundary: each call with each length from 0 to 1,024 in each
    of its two buffers, and with lengths that are right in their low 16 or 32 bits alone (refusals
-   16: only the former). A wrong one is refused by its number, the lower of two; the answer hands
-   back the state as it was, no ending and no marks, and nothing is written. Where a length is 0
+   16: only the former). A wrong one is refused by its number, the lower of two; the answer has
+   the state as it was, no ending and no marks, and nothing is written. Where a length is 0
    the pointer is null. Status 1: something else was seen. */
 #include <stdio.h>
 #include <string.h>
@@ -27,16 +27,16 @@ static size_t seen(size_t bytes)
     return bytes < SEEN ? bytes : SEEN;
 }
 
-static void *lend(size_t bytes)
+static void *filled(size_t bytes)
 {
-    void *room = before(fences[1], bytes);
-    for (size_t i = 0; i < seen(bytes); i++) written[i] = ((unsigned char *)room)[i] = (unsigned char)(37 * i + 11);
-    return room;
+    void *buffer = before(fences[1], bytes);
+    for (size_t i = 0; i < seen(bytes); i++) written[i] = ((unsigned char *)buffer)[i] = (unsigned char)(37 * i + 11);
+    return buffer;
 }
 
-static int as_lent(const void *room, size_t bytes)
+static int unchanged(const void *buffer, size_t bytes)
 {
-    return bytes == 0 || memcmp(room, written, seen(bytes)) == 0;
+    return bytes == 0 || memcmp(buffer, written, seen(bytes)) == 0;
 }
 
 static uint16_t encoded(rpeltp_encode_answer a)
@@ -108,10 +108,10 @@ static uint16_t expected(const struct call *c, size_t first, size_t second)
 
 static void try(const struct call *c, size_t first, size_t second)
 {
-    void *room = lend(c->width * second);
-    uint16_t number = c->made(first, room, second);
+    void *buffer = filled(c->width * second);
+    uint16_t number = c->made(first, buffer, second);
     if (number != expected(c, first, second)) wrong(c->name, first, second);
-    if (number != RPELTP_DONE && !as_lent(room, c->width * second)) wrong("a refusal has written", first, second);
+    if (number != RPELTP_DONE && !unchanged(buffer, c->width * second)) wrong("a refusal has written", first, second);
 }
 
 static size_t try_all(const struct call *c)

@@ -117,6 +117,17 @@ class Whole(Checkout):
         self.assertTrue(said[0].endswith('nothing wrong'))
         self.assertEqual(said[1:], ['README.md:1: nothing here is called no_such_name', 'documents: 1 findings'])
 
+    def test_files_without_git(self) -> None:
+        self.write('build/made.py', 'x = 1\n')
+        self.write('rust/target/made.rs', 'x\n')
+        with mock.patch('subprocess.run', side_effect=FileNotFoundError):
+            self.assertEqual(docs.tracked(self.root), sorted(FILES))
+
+    def test_files_of_git(self) -> None:
+        listed = mock.Mock(returncode=0, stdout='README.md\0docs/GONE.md\0')
+        with mock.patch('subprocess.run', return_value=listed):
+            self.assertEqual(docs.tracked(self.root), ['README.md'])
+
     def test_lists(self) -> None:
         self.write('docs/ROOMS.md', '# Rooms\n\n## The crates\n\nrpe_weighting\n')
         self.write('docs/PROMISES.md', '| `rpe_weighting::inner` `home` |\n')

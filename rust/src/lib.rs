@@ -31,7 +31,7 @@
 //!
 //! The library behind these calls is proved: every call ends, on any samples, codewords and state; what is wrong is
 //! refused by number, and a refusal changes nothing; what is not refused is the standard's. So there is nothing that a
-//! caller must test first, and this crate tests nothing. This crate itself is not proved. It hands slices over and puts
+//! caller must test first, and this crate tests nothing. This crate itself is not proved. It passes slices on and gives
 //! names to numbers; the only `unsafe` code is the eight calls.
 //!
 //! # How to build with it

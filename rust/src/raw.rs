@@ -1,6 +1,6 @@
 //! What the library has, as `c/rpeltp.h` declares it: the structs field by field, and the calls.
 //!
-//! A struct has the header's name without `rpeltp_`. A test outside this crate holds this file to the header.
+//! A struct has the header's name without `rpeltp_`. A test outside this crate compares this file with the source.
 
 /// What the encoder keeps between frames (4.2), 280 bytes, by the standard's names.
 ///

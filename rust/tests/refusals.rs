@@ -52,58 +52,58 @@ fn decoder() -> Decoder {
 }
 
 /// The outcome of a call, after a look at what it left: where it refused nothing is to be written, and where it was
-/// done nothing behind what was lent.
+/// done nothing behind the buffer that was passed.
 fn seen<T: PartialEq>(
     outcome: Result<(), Refusal>,
-    lent: usize,
-    room: &[T],
+    passed: usize,
+    buffer: &[T],
     before: &[T],
 ) -> Result<(), Refusal> {
-    let kept = if outcome.is_ok() { lent } else { 0 };
-    assert!(room[kept..] == before[kept..], "written: {outcome:?}");
+    let kept = if outcome.is_ok() { passed } else { 0 };
+    assert!(buffer[kept..] == before[kept..], "written: {outcome:?}");
     outcome
 }
 
-// One call of each kind, from the state given, with buffers of these lengths, which are the first part of a room.
+// One call of each kind, from the state given, with buffers of these lengths, which are the first part of a longer one.
 
 fn encode(mut from: Encoder, samples: usize, codewords: usize) -> Result<(), Refusal> {
-    let (before, mut room) = (from.clone(), WORDS);
-    let outcome = from.encode(&WORDS[..samples], &mut room[..codewords]);
+    let (before, mut buffer) = (from.clone(), WORDS);
+    let outcome = from.encode(&WORDS[..samples], &mut buffer[..codewords]);
     assert_eq!(outcome.is_err(), from == before);
-    seen(outcome.map(|_signs| ()), codewords, &room, &WORDS)
+    seen(outcome.map(|_signs| ()), codewords, &buffer, &WORDS)
 }
 
 fn encode_alaw(mut from: Encoder, octets: usize, codewords: usize) -> Result<(), Refusal> {
-    let (before, mut room) = (from.clone(), WORDS);
-    let outcome = from.encode_alaw(&OCTETS[..octets], &mut room[..codewords]);
+    let (before, mut buffer) = (from.clone(), WORDS);
+    let outcome = from.encode_alaw(&OCTETS[..octets], &mut buffer[..codewords]);
     assert_eq!(outcome.is_err(), from == before);
-    seen(outcome.map(|_signs| ()), codewords, &room, &WORDS)
+    seen(outcome.map(|_signs| ()), codewords, &buffer, &WORDS)
 }
 
 fn decode(mut from: Decoder, samples: usize, codewords: usize) -> Result<(), Refusal> {
-    let (before, mut room) = (from.clone(), WORDS);
-    let outcome = from.decode(&WORDS[..codewords], &mut room[..samples]);
+    let (before, mut buffer) = (from.clone(), WORDS);
+    let outcome = from.decode(&WORDS[..codewords], &mut buffer[..samples]);
     assert_eq!(outcome.is_err(), from == before);
-    seen(outcome, samples, &room, &WORDS)
+    seen(outcome, samples, &buffer, &WORDS)
 }
 
 fn decode_alaw(mut from: Decoder, octets: usize, codewords: usize) -> Result<(), Refusal> {
-    let (before, mut room) = (from.clone(), OCTETS);
-    let outcome = from.decode_alaw(&WORDS[..codewords], &mut room[..octets]);
+    let (before, mut buffer) = (from.clone(), OCTETS);
+    let outcome = from.decode_alaw(&WORDS[..codewords], &mut buffer[..octets]);
     assert_eq!(outcome.is_err(), from == before);
-    seen(outcome, octets, &room, &OCTETS)
+    seen(outcome, octets, &buffer, &OCTETS)
 }
 
 fn packed(codewords: &[i16], bytes: usize) -> Result<(), Refusal> {
-    let mut room = OCTETS;
-    let outcome = pack(codewords, &mut room[..bytes]);
-    seen(outcome, bytes, &room, &OCTETS)
+    let mut buffer = OCTETS;
+    let outcome = pack(codewords, &mut buffer[..bytes]);
+    seen(outcome, bytes, &buffer, &OCTETS)
 }
 
 fn unpacked(bytes: &[u8], codewords: usize) -> Result<(), Refusal> {
-    let mut room = WORDS;
-    let outcome = unpack(bytes, &mut room[..codewords]);
-    seen(outcome, codewords, &room, &WORDS)
+    let mut buffer = WORDS;
+    let outcome = unpack(bytes, &mut buffer[..codewords]);
+    seen(outcome, codewords, &buffer, &WORDS)
 }
 
 /// A buffer: the length that it is to have, and how another is refused.
