@@ -81,7 +81,7 @@ ALLOWED = {word for words in OTHERS.values() for word in words}
 # ---- the files
 
 def tracked(root: str) -> list[str]:
-    """The paths of the files that git tracks, and of new ones that it does not ignore. Without git: of all files, except
+    """The paths of the files that git tracks, and of new ones that it does not ignore. Without git: of all files except
     those that commands make."""
     command = ['git', '-C', root, 'ls-files', '--cached', '--others', '--exclude-standard', '-z']
     try:
