@@ -582,7 +582,7 @@ def check_widths(path: str, text: str) -> Iterator[Finding]:
 # ---- (e) citations of the old pages, and paths of one machine
 
 # the number of an old page as a word: not a part of another word or number, of a date or of hex
-PAGE = re.compile(r'(?<![\w.:/\\#$%+-])0(?:0?1|2)(?![\w%]|[.:/-]\d)')
+PAGE = re.compile(r'(?<![\w.:/\\#$%+-])(?<!\d,)0(?:0?1|2)(?![\w%]|[.:/-]\d)')
 ABSOLUTE = re.compile(r'(?<![\w.*$})\]>"\'`?~:/-])/([A-Za-z][\w.+-]*)((?:/[\w.+-]+)+)|(?<=["\'`: ])/([A-Za-z][\w.+-]*)'
                       r'((?:/[\w.+-]+)+)')
 # folders that a script may name, and the roots of the machine that are no folder of the repository

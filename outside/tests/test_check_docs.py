@@ -233,7 +233,8 @@ class Lines(unittest.TestCase):
         for line in (f"-- {one}'s rows", f'({two}, W-204)', f'of {three}', f'"{one}" says', f'{three}, A3.2: files',
                      f'// {one}: x', f'both {one} and'):
             self.assertEqual(len(docs.page_citations(line)), 1, line)
-        for line in (f'SEQ{one}', f'e{one}_zero', f'0x{one}', f'2026-{one}-15', f'4.{one}', f'{one}:30', f'{one}.5'):
+        for line in (f'SEQ{one}', f'e{one}_zero', f'0x{one}', f'2026-{one}-15', f'4.{one}', f'{one}:30', f'{one}.5',
+                     f'1,{three}', f'320,000,{three} bytes'):
             self.assertEqual(docs.page_citations(line), [], line)
 
     def test_machine_paths(self) -> None:
