@@ -1,4 +1,4 @@
--- Frames of the vectors, encoded. Written by outside/trials.py.
+-- Frames of the vectors, encoded. Written by outside/write_trials.py.
 use mathlib.Core.Path.{_≡_, refl}
 use mathlib.Core.Option.{some}
 use mathlib.Core.List.{[], _∷_}

@@ -1,4 +1,4 @@
--- Inputs of the vectors, listed. Written by outside/trials.py.
+-- Inputs of the vectors, listed. Written by outside/write_trials.py.
 use mathlib.Core.Path.{_≡_, refl}
 use mathlib.Core.List.{[], _∷_}
 use Rattle.standard.specs.Listing.{text, listing}

@@ -1,4 +1,4 @@
--- Frames for what no vector shows, encoded and decoded. Written by outside/trials.py.
+-- Frames for what no vector shows, encoded and decoded. Written by outside/write_trials.py.
 use mathlib.Core.Path.{_≡_, refl}
 use mathlib.Core.Option.{some}
 use mathlib.Core.List.{[], _∷_}

@@ -1,4 +1,4 @@
--- Frames of the vectors, packed and unpacked. Written by outside/trials.py.
+-- Frames of the vectors, packed and unpacked. Written by outside/write_trials.py.
 use mathlib.Core.Path.{_≡_, refl}
 use mathlib.Core.List.{[], _∷_}
 use lib.IntN.{pos}
