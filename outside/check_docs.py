@@ -122,11 +122,14 @@ def line_of(text: str, index: int) -> int:
 
 # ---- names that files define
 
+def items_of(text: str) -> set[str]:
+    """The functions, types, constants and modules of a .rt or .rs file."""
+    return set(re.findall(r'\b(?:fn|struct|enum|const|static|mod|trait|type)\s+(\w+)', re.sub(r'//.*', '', text)))
+
+
 def rt_names(text: str) -> set[str]:
-    """What a .rt file defines: functions and their parameters, types, fields, variants, constants, modules; and what it
-    imports."""
-    code = re.sub(r'//.*', '', text)
-    names = set(re.findall(r'\b(?:fn|struct|enum|const|static|mod|trait|type)\s+(\w+)', code))
+    """What a .rt file defines: its items, parameters, fields, variants; and what it imports."""
+    names, code = items_of(text), re.sub(r'//.*', '', text)
     names.update(re.findall(r'(?:\bpub\s+|[({,]\s*|^\s*)(?:mut\s+)?(\w+)\s*:(?!:)', code, re.M))
     for _, variants in enums(text):
         names |= variants
@@ -171,9 +174,7 @@ def antt_names(text: str) -> set[str]:
 
 
 def rust_names(text: str) -> set[str]:
-    code = re.sub(r'//.*', '', text)
-    names = set(re.findall(r'\b(?:fn|struct|enum|const|static|mod|type|trait)\s+(\w+)', code))
-    names.update(re.findall(r'^\s*(?:pub\s+)?(\w+)\s*:(?!:)', code, re.M))
+    names = items_of(text) | set(re.findall(r'^\s*(?:pub\s+)?(\w+)\s*:(?!:)', re.sub(r'//.*', '', text), re.M))
     for _, variants in enums(text):
         names |= variants
     return names
@@ -253,7 +254,7 @@ class Names:
     folders: set[str] = field(default_factory=set)
     words: set[str] = field(default_factory=set)
     crates: list[str] = field(default_factory=list)
-    # functions and other names of each crate; functions of each type
+    # functions and types of each crate; functions and variants of each type
     of_crate: dict[str, set[str]] = field(default_factory=dict)
     of_type: dict[str, set[str]] = field(default_factory=dict)
     # crate, type or None, name of each public function, and where it is
@@ -302,8 +303,8 @@ def gather(root: str) -> Names:
         names.words |= defined
         if path == 'Makefile':
             names.targets = make_targets(text)
-        if path.startswith('crates/') and defined:
-            names.of_crate.setdefault(path.split('/')[1], set()).update(defined)
+        if path.startswith('crates/') and ending == '.rt':
+            names.of_crate.setdefault(path.split('/')[1], set()).update(items_of(text))
         if path.endswith('specs/Listing.antt') or path.endswith('/stdout'):
             names.words |= listing_words(text)
         if ending in ('.py', '.sh') or text.startswith('#!') or path == 'Makefile':
@@ -650,7 +651,7 @@ def main() -> int:
     found, seen = findings(root)
     for path, line, what in found:
         print(f'{path}:{line}: {what}')
-    print(f'documents: {len(found)} findings' if found else f'documents: {seen}: nothing wrong')
+    print(f'{len(found)} findings' if found else f'{seen}: nothing wrong')
     return 1 if found else 0
 
 

@@ -115,7 +115,7 @@ class Whole(Checkout):
                 self.assertEqual(docs.main(), 1)
         said = [call.args[0] for call in printed.call_args_list]
         self.assertTrue(said[0].endswith('nothing wrong'))
-        self.assertEqual(said[1:], ['README.md:1: nothing here is called no_such_name', 'documents: 1 findings'])
+        self.assertEqual(said[1:], ['README.md:1: nothing here is called no_such_name', '1 findings'])
 
     def test_files_without_git(self) -> None:
         self.write('build/made.py', 'x = 1\n')
@@ -169,7 +169,8 @@ class Names(Checkout):
             'crates/NAME/src/lib.rt', '.antt', 'outside/vectors/enc/e15_impulse', 'Makefile', '--frames'), [])
 
     def test_names_that_do_not(self) -> None:
-        for span in ('rpe_other', 'nothing', 'local', 'hidden-one', 'comment_word', 'rpe_weighting::inside2',
+        for span in ('rpe_other', 'nothing', 'local', 'hidden-one', 'comment_word', 'rpe_weighting::inside',
+                     'rpe_weighting::toZ', 'rpe_weighting::place',
                      'Encoder::away', 'rpe_no::weighted', 'rpe_weighting::Mark::home', 'Mark::Lost', 'tap_on',
                      'tap_on.edit', 'Lpc.antt', 'docs/NO.md', 'specs/No.antt', 'crates/NAME/no.rt', '.xyz', 'law_..',
                      'stop9', '--no', 'W-204', 'weighted(nowhere)'):

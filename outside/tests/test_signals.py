@@ -1,4 +1,5 @@
 """signals.py: shapes, lengths, and that a seed makes the same again."""
+import itertools
 import unittest
 from array import array
 from random import Random
@@ -46,9 +47,9 @@ class Shapes(unittest.TestCase):
         self.assertTrue(samples.count(32767) > 300 and samples.count(-32768) > 300)
 
     def test_held(self) -> None:
-        samples = signals.held(Random(1), 1000, (3, 5))
-        self.assertEqual((len(samples), set(samples)), (1000, {3, 5}))
-        self.assertEqual(max(len(run) for run in ''.join(map(str, samples)).split('5')) > 1, True)
+        samples = signals.held(Random(1), 5000, range(-30000, 30000))
+        lengths = {len(list(group)) for _, group in itertools.groupby(samples[:-40])}
+        self.assertEqual((len(samples), lengths), (5000, set(range(1, 41))))
 
     def test_bursts(self) -> None:
         samples = signals.bursts(Random(1), 2000, lambda size: signals.repeated(size, [9]))
