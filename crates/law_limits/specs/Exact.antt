@@ -16,7 +16,7 @@ use Rattle.standard.specs.Tables.{_at_, B, MIC, MAC, LARc-widths}
 use Rattle.standard.specs.House.{fit}
 use Rattle.law_arithmetic.specs.Clip.{plus-plain, minus-plain, abs-clip}
 use Rattle.law_arithmetic.specs.Shift.{keep-plain}
-use Rattle.op_tables.specs.Facts.{within, LARc-span}
+use Rattle.op_tables.specs.Facts.{entry-size, LARc-span}
 use Rattle.law_fields.specs.Fit.{fit-is}
 use Rattle.rpe_inverse.specs.Shifts.{twice, raised}
 
@@ -51,15 +51,15 @@ size-up r h =
 -- the largest sizes in three tables
 MIC-in : (i : ℕ) → natAbs (MIC at i) ≤ 32
 unfolding every MIC
-MIC-in = within MIC 32 refl
+MIC-in = entry-size MIC 32 refl
 
 MAC-in : (i : ℕ) → natAbs (MAC at i) ≤ 31
 unfolding every MAC
-MAC-in = within MAC 31 refl
+MAC-in = entry-size MAC 31 refl
 
 B-in : (i : ℕ) → natAbs (B at i) ≤ 2560
 unfolding every B
-B-in = within B 2560 refl
+B-in = entry-size B 2560 refl
 
 -- 4.2.8: (LARc + MIC) << 10, of a code that fits its field
 pub code-up : (i : ℕ) (larc : ℤ) → i < 8 → fit (getD LARc-widths i 0) larc ≡ true → Exact w16 (add larc (MIC at i)) 10

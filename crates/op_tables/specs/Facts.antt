@@ -25,9 +25,9 @@ past-end {A} {d} t {i} h = sym (List·getD-eq-default t d {n = i} h)
 passes : (p : ℤ → Bool) (t : List ℤ) → p (pos 0) ≡ true → every p t ≡ true → (i : ℕ) → p (t at i) ≡ true
 passes p t z e i = ⊎-elim (λ h. rw (← past-end {d = pos 0} t {i = i} h) z) (λ h. every-at p t i (pos 0) e h) (le-or-lt (length t) i)
 
--- a bound on the size of every entry, by one test over the table: `within A 20480 refl i`, under `unfolding A every`
-pub within : (t : List ℤ) (b : ℕ) → every (λ z. leb (natAbs z) b) t ≡ true → (i : ℕ) → natAbs (t at i) ≤ b
-within t b e i = leb-true (natAbs (t at i)) b (passes (λ z. leb (natAbs z) b) t (le-leb 0 b (omega arith)) e i)
+-- a bound on the size of every entry, by one test over the table: `entry-size A 20480 refl i`, under `unfolding A every`
+pub entry-size : (t : List ℤ) (b : ℕ) → every (λ z. leb (natAbs z) b) t ≡ true → (i : ℕ) → natAbs (t at i) ≤ b
+entry-size t b e i = leb-true (natAbs (t at i)) b (passes (λ z. leb (natAbs z) b) t (le-leb 0 b (omega arith)) e i)
 
 -- no mantissa is negative
 pub FAC-above : (i : ℕ) → leZ (pos 0) (FAC at i) ≡ true

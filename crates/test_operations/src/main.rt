@@ -1,6 +1,7 @@
 // An outside check of 4.1 and of A-law: puts arguments at and around the ends of the range through every operation, and
-// every code and every value of 13 bits through A-law, and prints the results. The stored output comes from
-// outside/operations.py, never from here. Each function that prints says whether it could; if not, all stops.
+// every code and every value of 13 bits through A-law, and prints the results. The stored output is written by
+// outside/compare_operations.py, never by this program. Each function that prints says whether it could; if not, all
+// stops.
 
 const WORDS: [i16; 20] = [
     -32768,
