@@ -39,7 +39,7 @@ extern "C" {
 #define RPELTP_DONE 0
 #define RPELTP_REFUSED_SAMPLES 1   /* samples_len or octets_len is not 160 */
 #define RPELTP_REFUSED_CODEWORDS 2 /* codewords_len is not 76 */
-#define RPELTP_REFUSED_STATE 3     /* the state is not sound (below); from home on it always is */
+#define RPELTP_REFUSED_STATE 3     /* the state is not sound (below); one that came from home is sound */
 #define RPELTP_REFUSED_BYTES 4     /* bytes_len is not 33 */
 #define RPELTP_REFUSED_FIELD 5     /* pack: a codeword is wider than its field, or below 0 */
 #define RPELTP_REFUSED_SPARE 6     /* unpack: a spare bit is 1 */

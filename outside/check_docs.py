@@ -14,7 +14,7 @@ Links between documents, and their anchors, must exist.
 Lists: every crate of crates.txt is in docs/ROOMS.md; every `pub fn` is in docs/PROMISES.md; every sub-clause that a
     heading in crates/standard/specs names has a row in docs/CLAUSES.md.
 Widths: 100 columns in .md, but for tables, images and fenced code; 140 in .antt; 120 in other sources and scripts.
-    Imports, and crates/standard_trials, which a script writes, may be wider.
+    Imports, and what outside/write_trials.py writes, may be wider.
 Citations: the house rules, the requests and the standard are cited by name, not by the numbers of their old pages.
 Sources: a file of the repository that a comment or a message names must exist.
 Machine paths: no file names a path that exists on one machine only.
@@ -561,7 +561,7 @@ def check_clauses(texts: dict[str, str]) -> Iterator[Finding]:
 def width_of(path: str, text: str) -> int | None:
     """How many columns a line of this file may have; None: any number."""
     ending = os.path.splitext(path)[1]
-    if path.startswith('crates/standard_trials/'):
+    if text.startswith('-- ') and 'Written by outside/write_trials.py.' in text.split('\n', 1)[0]:
         return None
     if os.path.basename(path) == 'Makefile' or (not ending and text.startswith('#!')):
         ending = 'script'

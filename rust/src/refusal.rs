@@ -20,8 +20,8 @@ pub enum Refusal {
     Samples,
     /// 2: the codewords are not [`CODEWORDS`](crate::CODEWORDS).
     Codewords,
-    /// 3: the state is not sound, which no state from home on ever is; [`Encoder`](crate::Encoder) and
-    /// [`Decoder`](crate::Decoder) say which are.
+    /// 3: the state is not sound; [`Encoder`](crate::Encoder) and [`Decoder`](crate::Decoder) say which states are. A
+    /// state that came from home is always sound.
     State,
     /// 4: the bytes are not [`BYTES`](crate::BYTES).
     Bytes,

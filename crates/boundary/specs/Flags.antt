@@ -1,5 +1,5 @@
--- No flag is lost on the way to C: each ending and each mark has a number of its own, and 0 stands for them in an answer
--- exactly where its refusal number is not 0.
+-- No flag is lost on the way to C: each ending and each mark has a number of its own. In an answer the ending and the marks are 0 if and
+-- only if the call was refused.
 use Prim.Native.Nat.{ℕ, zero, suc, _+_, _-_, _<_}
 use mathlib.Core.Path.{_≡_, refl, sym, ap, _∙_}
 use mathlib.Core.Bool.{true}

@@ -1,4 +1,4 @@
--- What the program does with a frame: the decoder after it, and its samples in the output.
+-- What the program makes of a frame: the decoder's next state, and the samples as bytes.
 use mathlib.Core.List.{List}
 use Prim.Native.Nat.{ℕ}
 use lib.IntN.{pos}

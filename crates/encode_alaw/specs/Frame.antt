@@ -1,4 +1,4 @@
--- What the program does with a frame: the coder after it, and its codewords in the output.
+-- What the program makes of a frame of octets: the encoder's next state, and the codewords as bytes.
 use mathlib.Core.List.{List}
 use Prim.Native.Nat.{ℕ}
 use lib.IntN.{pos}

@@ -18,14 +18,17 @@ idle = encode home-coder (alaw-samples (replicate 160 213)) (replicate 76 (pos 1
 unfoldable pub idle-frame : List ℤ
 unfolding flatten
 idle-frame =
-    map pos (9 ∷ 23 ∷ 15 ∷ 8 ∷ 7 ∷ 3 ∷ 3 ∷ 2 ∷ flatten (replicate 3 (40 ∷ 0 ∷ 0 ∷ 0 ∷ replicate 13 4)) ++ (40 ∷ 0 ∷ 0 ∷ 0 ∷ 4 ∷ 4 ∷ 4 ∷ 4 ∷ 3 ∷ replicate 8 4))
+    map pos
+    (9 ∷ 23 ∷ 15 ∷ 8 ∷ 7 ∷ 3 ∷ 3 ∷ 2
+    ∷ flatten (replicate 3 (40 ∷ 0 ∷ 0 ∷ 0 ∷ replicate 13 4)) ++ (40 ∷ 0 ∷ 0 ∷ 0 ∷ 4 ∷ 4 ∷ 4 ∷ 4 ∷ 3 ∷ replicate 8 4))
 
 pub record Idle : Type 0 where
   pub number : idle .number ≡ 0
   pub codewords : idle .codewords ≡ idle-frame
   pub ending : idle .ending ≡ some complete
   pub marks : idle .marks ≡ replicate 4 (some rule)
-  pub first-heard : take 12 (decode-alaw home-decoder zero-frame (replicate 160 1) .octets) ≡ replicate 6 213 ++ (212 ∷ 213 ∷ 213 ∷ 212 ∷ 212 ∷ 213 ∷ [])
+  pub first-heard : take 12 (decode-alaw home-decoder zero-frame (replicate 160 1) .octets)
+      ≡ replicate 6 213 ++ (212 ∷ 213 ∷ 213 ∷ 212 ∷ 212 ∷ 213 ∷ [])
 
 pub idles : Idle
 unfolding opened idle idle-frame zero-frame

@@ -1,4 +1,5 @@
--- Stray bits, which are bits beside the valid ones: to each codeword a multiple of 2 to the power of its width is added.
+-- Stray bits, which are bits above the valid ones: a multiple of 2 to the power of its width is added to each codeword. The valid bits
+-- stay the same.
 use Prim.Native.Nat.{ℕ, _+_, _*_, _%_, _^_, _<_, _≤_}
 use mathlib.Core.Path.{_≡_, refl, sym, ap, ap₂, _∙_}
 use mathlib.Core.List.{List, [], _∷_, zipWith, flatten}
@@ -25,7 +26,7 @@ pub stray-length : (k : ℤ) (c : List ℤ) → length c ≡ 76 → length (stra
 unfolding widths LARc-widths sub-widths flatten stray
 stray-length k c h = rw zip-length (omega arith)
 
--- adding a multiple of m does not change a number modulo m: with a multiple of m added to each, both are the same number
+-- adding a multiple of m does not change a number modulo m
 modulo-moved : (c k : ℤ) (m : ℕ) → 0 < m → modulo (c +ℤ k *ℤ pos m) m ≡ modulo c m
 modulo-moved c k m h =
     let z = c +ℤ k *ℤ pos m in

@@ -330,8 +330,8 @@ fn turn(t: Tally, there: usize, room: &mut [u8], out: &mut [u8]) -> After
     }
 }
 
-// The program must be shown to end, and nothing says that an input ends. So the frames are counted, up to a number that
-// is 5 hours of speech.
+// The program must be shown to end, and nothing says that an input ends. So the frames are counted, up to 1,000,000,
+// which are five and a half hours of speech.
 fn main() {
     let mut room = [0; 20480];
     let mut out = [0; 4096];

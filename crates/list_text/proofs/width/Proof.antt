@@ -1,5 +1,5 @@
--- The power is 10 to the k, and the search for the number of digits from k on gives what the whole search gives. A turn whose
--- power is not above n goes on to k + 1; where the loop stops, k is the first that is enough.
+-- The invariant: the power is 10 ^ k, and no smaller number of digits than k is enough for n. An iteration whose power is not above n
+-- goes on to k + 1. Where the loop stops, k digits are enough.
 use Prim.Native.Nat.{ℕ, suc, _+_, _-_, _^_, _<_}
 use mathlib.Core.Path.{_≡_, refl, sym, ap, _∙_}
 use mathlib.Core.Logic.{⊎-elim}

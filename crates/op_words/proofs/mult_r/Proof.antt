@@ -1,4 +1,4 @@
--- The product of two words and 16384 fit in 32 bits together, and the shift is that of the definition; `clip_word` then gives its clip.
+-- The product of two words plus 16384 fits 32 bits. The shift is that of the definition, and `clip_word` clips as the definition does.
 use mathlib.Core.Path.{_∙_, ap}
 use mir.Syntax.{w16}
 use Rattle.math_integers.specs.Ranges.{zfits}

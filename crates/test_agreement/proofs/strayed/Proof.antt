@@ -1,4 +1,4 @@
--- The frame has 76 codewords by its type, so each_beside may be called; k is a word, so its promise is the one given here.
+-- `each_beside` does the work. It may be called, since the frame has 76 codewords by its type; its promise is that of `strayed`.
 use borrow.Author.Needs.{needs}
 use Rattle.math_integers.specs.Ranges.{back}
 use Rattle.test_agreement.proofs.strayed.Statement.{statement}

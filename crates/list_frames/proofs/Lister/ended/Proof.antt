@@ -1,4 +1,4 @@
--- Past the limit every E line is the same (`E-beyond`), so 320000001, which fits 32 bits, may be used for any such number.
+-- Past the limit every E line is the same (`E-beyond`). So 320000001 bytes, a number that fits 32 bits, may stand for any more bytes.
 use Prim.Native.Nat.{_+_, _*_}
 use native.Mathlib.Omega.{arith}
 use borrow.Author.Needs.{needs}
