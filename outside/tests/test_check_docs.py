@@ -226,7 +226,9 @@ class Lines(unittest.TestCase):
         for path in ('outside/a.py', 'c/a.c', 'c/a.h', 'rust/a.rs', 'bench/a.sh', 'Makefile'):
             self.assertEqual(self.wide(path, 'x' * 120, 'use ' + 'x' * 117), [2], path)
         self.assertEqual(self.wide('bin/a', '#!/bin/sh', 'x' * 120, 'x' * 121), [3])
-        self.assertEqual(self.wide('crates/standard_trials/specs/A.antt', 'x' * 500), [])
+        written = '-- Frames. Written by outside/write_trials.py.\n' + 'x' * 500
+        self.assertEqual(self.wide('crates/standard_trials/specs/A.antt', written), [])
+        self.assertEqual(self.wide('crates/standard_trials/specs/A.antt', 'x' * 500), [1])
         self.assertEqual(self.wide('bench/a.tsv', 'x' * 500), [])
 
     def test_citations(self) -> None:
