@@ -10,7 +10,7 @@ use lib.ListN.{length, replicate}
 use lib.Pow.{pow-add, pow-pos, pow-mono}
 use borrow.Author.Tests.{ltb-true, lt-ltb}
 use Rattle.math_lists.specs.Every.{every}
-use Rattle.standard.specs.Packed.{bits, value}
+use Rattle.standard.specs.Packed.{binary, value}
 
 -- below 2
 abbrev pub is-bit : ℕ → Bool
@@ -21,22 +21,22 @@ abbrev pub are-bits : List ℕ → Bool
 are-bits = every is-bit
 
 -- there are as many bits as the width says
-pub bits-length : (w n : ℕ) → length (bits w n) ≡ w
-unfolding bits
-bits-length zero n = refl
-bits-length (suc w) n = rw (bits-length w (n / 2))
+pub binary-length : (w n : ℕ) → length (binary w n) ≡ w
+unfolding binary
+binary-length zero n = refl
+binary-length (suc w) n = rw (binary-length w (n / 2))
 
 -- and they are bits
-pub bits-are : (w n : ℕ) → are-bits (bits w n) ≡ true
-unfolding bits every
-bits-are zero n = refl
-bits-are (suc w) n = rw (lt-ltb (n % 2) 2 (omega arith)) (bits-are w (n / 2))
+pub binary-are : (w n : ℕ) → are-bits (binary w n) ≡ true
+unfolding binary every
+binary-are zero n = refl
+binary-are (suc w) n = rw (lt-ltb (n % 2) 2 (omega arith)) (binary-are w (n / 2))
 
 -- a number that fits the width is the value of its bits
-pub value-bits : (w n : ℕ) → n < 2 ^ w → value (bits w n) ≡ n
-unfolding bits value
-value-bits zero n h = omega arith
-value-bits (suc w) n h = rw (value-bits w (n / 2) (omega arith)) (omega arith)
+pub value-binary : (w n : ℕ) → n < 2 ^ w → value (binary w n) ≡ n
+unfolding binary value
+value-binary zero n h = omega arith
+value-binary (suc w) n h = rw (value-binary w (n / 2) (omega arith)) (omega arith)
 
 -- the value of k bits is below 2 to the k
 pub value-below : (b : List ℕ) → are-bits b ≡ true → value b < 2 ^ length b
@@ -47,15 +47,15 @@ value-below (x ∷ xs) e =
     omega (arith, ltb-true x 2 (t .0), value-below xs (t .1), pow-succ' 2 (length xs))
 
 -- and are the bits of that value
-pub bits-value : (b : List ℕ) → are-bits b ≡ true → bits (length b) (value b) ≡ b
-unfolding bits value every
-bits-value [] e = refl
-bits-value (x ∷ xs) e =
+pub binary-value : (b : List ℕ) → are-bits b ≡ true → binary (length b) (value b) ≡ b
+unfolding binary value every
+binary-value [] e = refl
+binary-value (x ∷ xs) e =
     let t = and-eq-true-iff (ltb x 2) (are-bits xs) .0 e in
     let l = ltb-true x 2 (t .0) in
     let low : (x + 2 * value xs) % 2 ≡ x = omega arith in
     let high : (x + 2 * value xs) / 2 ≡ value xs = omega arith in
-    rw (low, high, bits-value xs (t .1))
+    rw (low, high, binary-value xs (t .1))
 
 -- a way to write a number in w bits and to read it back: the lowest bit first, the highest first, or any other
 pub record Order : Type 0 where
@@ -71,13 +71,13 @@ pub record Order : Type 0 where
 abbrev pub low-first : Order
 low-first =
     record {
-      write = bits;
+      write = binary;
       read = value;
-      write-length = bits-length;
-      write-bits = bits-are;
-      read-write = value-bits;
+      write-length = binary-length;
+      write-bits = binary-are;
+      read-write = value-binary;
       read-below = value-below;
-      write-read = bits-value;
+      write-read = binary-value;
     }
 
 -- a number of h bits is also one of k bits, where h is at most k
@@ -93,25 +93,25 @@ join-below m n a b h k =
     rw (pow-add 2 m n) (omega (arith, mul-suc (2 ^ m) b))
 
 -- it has the bits of both
-pub bits-join : (m n a b : ℕ) → a < 2 ^ m → bits (m + n) (a + 2 ^ m * b) ≡ bits m a ++ bits n b
-unfolding bits
-bits-join zero n a b h =
+pub binary-join : (m n a b : ℕ) → a < 2 ^ m → binary (m + n) (a + 2 ^ m * b) ≡ binary m a ++ binary n b
+unfolding binary
+binary-join zero n a b h =
     let e : a + 2 ^ 0 * b ≡ b = omega arith in
     let z : zero + n ≡ n = omega arith in
     rw (z, e)
-bits-join (suc m) n a b h =
+binary-join (suc m) n a b h =
     let p : 2 ^ suc m * b ≡ 2 * (2 ^ m * b) = rw (pow-succ' 2 m, mul-assoc) in
     let s : suc m + n ≡ suc (m + n) = omega arith in
     let low : (a + 2 ^ suc m * b) % 2 ≡ a % 2 = rw p (omega arith) in
     let high : (a + 2 ^ suc m * b) / 2 ≡ a / 2 + 2 ^ m * b = rw p (omega arith) in
-    rw (s, low, high, bits-join m n (a / 2) b (omega (arith, pow-succ' 2 m)))
+    rw (s, low, high, binary-join m n (a / 2) b (omega (arith, pow-succ' 2 m)))
 
 -- so the bits of a number are those of its remainder and then those of its quotient
-pub bits-split : (m n x : ℕ) → bits (m + n) x ≡ bits m (x % 2 ^ m) ++ bits n (x / 2 ^ m)
-bits-split m n x = rw (mod-add-div x (2 ^ m)) at (bits-join m n (x % 2 ^ m) (x / 2 ^ m) (mod-lt x (pow-pos m)))
+pub binary-split : (m n x : ℕ) → binary (m + n) x ≡ binary m (x % 2 ^ m) ++ binary n (x / 2 ^ m)
+binary-split m n x = rw (mod-add-div x (2 ^ m)) at (binary-join m n (x % 2 ^ m) (x / 2 ^ m) (mod-lt x (pow-pos m)))
 
 -- 0 has only zeros
-pub bits-zero : (w : ℕ) → bits w 0 ≡ replicate w 0
-unfolding bits
-bits-zero zero = refl
-bits-zero (suc w) = rw (bits-zero w)
+pub binary-zero : (w : ℕ) → binary w 0 ≡ replicate w 0
+unfolding binary
+binary-zero zero = refl
+binary-zero (suc w) = rw (binary-zero w)

@@ -13,11 +13,11 @@ use borrow.Author.Tests.{not-false, eqb-true}
 use Rattle.math_integers.specs.Halves.{either}
 use Rattle.math_lists.specs.Lengths.{sized-length}
 use Rattle.math_lists.specs.Every.{every, every-only}
-use Rattle.standard.specs.Packed.{bits, value, packed, byte-bits, unpacked, spare}
+use Rattle.standard.specs.Packed.{binary, value, packed, byte-bits, unpacked, spare}
 use Rattle.standard.specs.House.{refusal, not-of, codewords-row, bytes-row, fields-row, spare-row, fits, pack-refusal, unpack-refusal}
 use Rattle.law_refusals.specs.Rows.{refusal-none}
 use Rattle.law_refusals.specs.Calls.{pack-exactly, pack-done, pack-refused, unpack-exactly, unpack-done, unpack-refused}
-use Rattle.packing.specs.Bits.{bits-length, value-bits, bits-split, bits-zero}
+use Rattle.packing.specs.Bits.{binary-length, value-binary, binary-split, binary-zero}
 use Rattle.packing.specs.Promise.{Packs, Unpacks}
 
 -- ---- the rows that both calls test first
@@ -91,24 +91,25 @@ bits-from zero b h = refl
 bits-from (suc k) [] h = absurd (omega arith)
 bits-from (suc k) (x ∷ b) h =
     let e : 8 * suc k ≡ 8 + 8 * k = omega arith in
-    rw (e, ← drop-drop (8 * k) 8 (bits 8 x ++ flatten (map (bits 8) b)), drop-at (bits 8 x) (flatten (map (bits 8) b)) 8 (bits-length 8 x))
+    let rest = flatten (map (binary 8) b) in
+    rw (e, ← drop-drop (8 * k) 8 (binary 8 x ++ rest), drop-at (binary 8 x) rest 8 (binary-length 8 x))
     (bits-from k b (omega arith))
 
 module _ (b : List ℕ) (h : length b ≡ 33) where
   -- they are the high half of the last byte
-  spare-half : spare b ≡ bits 4 (getD b 32 0 / 16)
+  spare-half : spare b ≡ binary 4 (getD b 32 0 / 16)
   unfolding spare byte-bits flatten
   spare-half =
       let x = getD b 32 0 in
       let d : drop 32 b ≡ x ∷ [] = rw (drop-cons b 32 0 (omega arith), drop-of-length-le b {i = 33} (omega arith)) in
-      let e : drop 256 (flatten (map (bits 8) b)) ≡ bits 8 x = rw (bits-from 32 b (omega arith), d, append-nil) in
-      let high = drop-at (bits 4 (x % 16)) (bits 4 (x / 16)) 4 (bits-length 4 (x % 16)) in
-      rw (← drop-drop 4 256 (flatten (map (bits 8) b)), e, bits-split 4 4 x, high)
+      let e : drop 256 (flatten (map (binary 8) b)) ≡ binary 8 x = rw (bits-from 32 b (omega arith), d, append-nil) in
+      let high = drop-at (binary 4 (x % 16)) (binary 4 (x / 16)) 4 (binary-length 4 (x % 16)) in
+      rw (← drop-drop 4 256 (flatten (map (binary 8) b)), e, binary-split 4 4 x, high)
 
   -- so all spare bits are 0 where that is 0
   pub spare-none : getD b 32 0 / 16 ≡ 0 → every (eqb 0) (spare b) ≡ true
   unfolding every
-  spare-none e = rw (spare-half, e, bits-zero 4)
+  spare-none e = rw (spare-half, e, binary-zero 4)
 
   -- and not all are 0 where it is not
   pub spare-some : getD b 32 0 < 256 → ¬ (getD b 32 0 / 16 ≡ 0) → every (eqb 0) (spare b) ≡ false
@@ -118,5 +119,5 @@ module _ (b : List ℕ) (h : length b ≡ 33) where
       none : every (eqb 0) (spare b) ≡ true → getD b 32 0 / 16 ≡ 0
       none e =
           let q = getD b 32 0 / 16 in
-          let z = every-only (eqb 0) 0 (λ x t. sym (eqb-true 0 x t)) (bits 4 q) (rw spare-half at e) in
-          sym (value-bits 4 q (omega arith)) ∙ rw (z, bits-length 4 q)
+          let z = every-only (eqb 0) 0 (λ x t. sym (eqb-true 0 x t)) (binary 4 q) (rw spare-half at e) in
+          sym (value-binary 4 q (omega arith)) ∙ rw (z, binary-length 4 q)

@@ -13,7 +13,7 @@ use Rattle.math_lists.specs.Tab.{zip-replicate}
 use Rattle.math_lists.specs.Cut.{sum}
 use Rattle.standard.specs.Tables.{LARc-widths}
 use Rattle.standard.specs.Frame.{sub-widths, widths}
-use Rattle.standard.specs.Packed.{bits, frame-bits, packed, byte-bits, unpacked, spare}
+use Rattle.standard.specs.Packed.{binary, frame-bits, packed, byte-bits, unpacked, spare}
 use Rattle.standard.specs.House.{fit, fits}
 use Rattle.packing.specs.Bits.{are-bits, Order, low-first}
 use Rattle.packing.specs.Fields.{Code, joined, all-fit, parted-count}
@@ -92,7 +92,7 @@ packed-is c = refl
 -- the bits of 33 bytes are those of fields of eight bits
 pub byte-bits-is : (b : List ℕ) → length b ≡ 33 → byte-bits b ≡ joined bytes eights b
 unfolding byte-bits
-byte-bits-is b h = rw (zip-replicate bits 8 33 b h)
+byte-bits-is b h = rw (zip-replicate binary 8 33 b h)
 
 unpacked-is : (b : List ℕ) → length b ≡ 33 → unpacked b ≡ taken low-codeword bytes widths eights [] zeros b
 unfolding unpacked

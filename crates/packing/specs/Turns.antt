@@ -13,7 +13,7 @@ use Rattle.math_lists.specs.Every.{every-at}
 use Rattle.math_lists.specs.Tab.{zip-at, zip-length}
 use Rattle.math_lists.specs.Cut.{sum, rest-sum}
 use Rattle.standard.specs.Frame.{widths}
-use Rattle.standard.specs.Packed.{bits, frame-bits, packed, unpacked}
+use Rattle.standard.specs.Packed.{binary, frame-bits, packed, unpacked}
 use Rattle.standard.specs.House.{fit, fits}
 use Rattle.law_fields.specs.Fit.{fit-is}
 use Rattle.frame_codewords.specs.Widths.{width-most}
@@ -30,11 +30,11 @@ Unpacking b = Moving (λ n. n) pos [] widths eights b
 
 -- what the loops give in the end is the packed frame, and the unpacked one
 packing-whole : (c : List ℤ) → coming natAbs (λ n. n) zeros eights widths c 0 0 ≡ packed c
-unfolding packed frame-bits bits
+unfolding packed frame-bits binary
 packing-whole c = refl
 
 unpacking-whole : (b : List ℕ) → length b ≡ 33 → coming (λ n. n) pos [] widths eights b 0 0 ≡ unpacked b
-unfolding unpacked bits
+unfolding unpacked binary
 unpacking-whole b h = rw (append-nil, byte-bits-is b h)
 
 -- no field holds more than 128 values

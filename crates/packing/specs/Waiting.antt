@@ -10,41 +10,42 @@ use lib.Pow.{pow-pos, shr-lt}
 use lib.ListN.{length, getD, set, take, drop, replicate, drop-of-length-le}
 use lib.Seq.{drop-cons, take-at, drop-at, take-all, take-suc-set, set-split, append-snoc}
 use Rattle.math_lists.specs.Cut.{sum, cut}
-use Rattle.standard.specs.Packed.{bits, value}
-use Rattle.packing.specs.Bits.{bits-length, value-bits, join-below, bits-join, bits-split, bits-zero}
+use Rattle.standard.specs.Packed.{binary, value}
+use Rattle.packing.specs.Bits.{binary-length, value-binary, join-below, binary-join, binary-split, binary-zero}
 
 -- a field x is read as the number `num x`; a number n is written as the cell `of n`; the bits `back` follow the fields
 module _ {X Y : Type 0} (num : X → ℕ) (of : ℕ → Y) (back : List ℕ) where
   -- the cells still to come, of the widths vs, where h bits wait in n and the fields xs, of the widths ws, are still to be read
   abbrev pub coming : List ℕ → List ℕ → List X → ℕ → ℕ → List Y
-  coming vs ws xs h n = map (λ b. of (value b)) (cut vs (bits h n ++ (flatten (zipWith (λ w x. bits w (num x)) ws xs) ++ back)))
+  coming vs ws xs h n = map (λ b. of (value b)) (cut vs (binary h n ++ (flatten (zipWith (λ w x. binary w (num x)) ws xs) ++ back)))
 
   -- a field goes above the bits that wait
   coming-in : (vs ws : List ℕ) (xs : List X) (h n w : ℕ) (x : X) → n < 2 ^ h
       → coming vs (w ∷ ws) (x ∷ xs) h n ≡ coming vs ws xs (h + w) (n + 2 ^ h * num x)
   unfolding flatten zipWith
-  coming-in vs ws xs h n w x l = rw (bits-join h w n (num x) l) (simp append-assoc)
+  coming-in vs ws xs h n w x l = rw (binary-join h w n (num x) l) (simp append-assoc)
 
   -- a cell is the low bits of those that wait
   coming-out : (vs ws : List ℕ) (xs : List X) (h n v : ℕ) → v ≤ h
       → coming (v ∷ vs) ws xs h n ≡ of (n % 2 ^ v) ∷ coming vs ws xs (h - v) (n / 2 ^ v)
   unfolding cut
   coming-out vs ws xs h n v l =
-      let low = bits v (n % 2 ^ v) in
-      let rest = bits (h - v) (n / 2 ^ v) ++ (flatten (zipWith (λ w x. bits w (num x)) ws xs) ++ back) in
+      let low = binary v (n % 2 ^ v) in
+      let rest = binary (h - v) (n / 2 ^ v) ++ (flatten (zipWith (λ w x. binary w (num x)) ws xs) ++ back) in
       let s : v + (h - v) ≡ h = omega arith in
-      let e : bits h n ≡ low ++ bits (h - v) (n / 2 ^ v) = rw s at (bits-split v (h - v) n) in
-      rw (e, append-assoc, take-at low rest v (bits-length v (n % 2 ^ v)), drop-at low rest v (bits-length v (n % 2 ^ v)))
-      (rw (value-bits v (n % 2 ^ v) (mod-lt n (pow-pos v))))
+      let e : binary h n ≡ low ++ binary (h - v) (n / 2 ^ v) = rw s at (binary-split v (h - v) n) in
+      rw (e, append-assoc, take-at low rest v (binary-length v (n % 2 ^ v)), drop-at low rest v (binary-length v (n % 2 ^ v)))
+      (rw (value-binary v (n % 2 ^ v) (mod-lt n (pow-pos v))))
 
   -- after the last field, r zeros fill up the cell: it is the number that waits
   coming-last : (h n r : ℕ) → n < 2 ^ h → back ≡ replicate r 0 → coming ((h + r) ∷ []) [] [] h n ≡ of n ∷ []
   unfolding cut flatten zipWith
   coming-last h n r l z =
       let e : n + 2 ^ h * 0 ≡ n = omega arith in
-      let j : bits h n ++ back ≡ bits (h + r) n = rw (z, ← bits-zero r, ← bits-join h r n 0 l, e) in
-      let t : take (h + r) (bits (h + r) n) ≡ bits (h + r) n = take-all (h + r) (bits (h + r) n) (omega (arith, bits-length (h + r) n)) in
-      rw (j, t, value-bits (h + r) n (rw e at (join-below h r n 0 l (pow-pos r))))
+      let j : binary h n ++ back ≡ binary (h + r) n = rw (z, ← binary-zero r, ← binary-join h r n 0 l, e) in
+      let all = binary (h + r) n in
+      let t : take (h + r) all ≡ all = take-all (h + r) all (omega (arith, binary-length (h + r) n)) in
+      rw (j, t, value-binary (h + r) n (rw e at (join-below h r n 0 l (pow-pos r))))
 
   module _ (vs ws : List ℕ) (xs : List X) where
     -- the loop's invariant, with i fields read, k cells written and h bits waiting in n

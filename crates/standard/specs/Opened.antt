@@ -16,7 +16,7 @@ use Rattle.standard.specs.LongTerm.{back, scal, correlations, lag-search
 use Rattle.standard.specs.Rpe.{filtered, weighted, grid, Mc, exponent, xmaxc, mantissa, amplitude, xMc, xMp, ep, reconstructed, updated}
 use Rattle.standard.specs.Coder.{analysis, sub-coded, sub-step, frame, coded}
 use Rattle.standard.specs.Decoder.{Nr, sub-decoded, inverse-section, synthesised, de-emphasis, srop, decoded}
-use Rattle.standard.specs.Packed.{bits, value, frame-bits, packed, byte-bits, unpacked, spare}
+use Rattle.standard.specs.Packed.{binary, value, frame-bits, packed, byte-bits, unpacked, spare}
 use Rattle.standard.specs.Files.{file-words, file-bytes}
 use Rattle.standard.specs.Alaw.{magnitude, expanded, segment, placed, compressed, alaw-samples, alaw-octets}
 use Rattle.standard.specs.House.{home-coder, home-decoder, sound-coder, sound-decoder, mark, refusal, fit, fits, encode-refusal, decode-refusal, decode-alaw-refusal, pack-refusal, unpack-refusal}
@@ -31,7 +31,7 @@ unfolding
     with-sign area-ratio LAR clamped LARc ratio-codes LARpp ratios stretches from-ratio rp stretch coefficients section analysed back
     scal correlations lag-search Nc L-power gain-level bc dpp residual filtered weighted grid Mc exponent xmaxc mantissa amplitude xMc
     xMp ep reconstructed updated analysis sub-coded sub-step frame coded Nr sub-decoded inverse-section synthesised de-emphasis srop
-    decoded bits value frame-bits packed byte-bits unpacked spare magnitude expanded segment placed compressed alaw-samples alaw-octets
+    decoded binary value frame-bits packed byte-bits unpacked spare magnitude expanded segment placed compressed alaw-samples alaw-octets
     home-coder home-decoder sound-coder sound-decoder mark refusal fit fits encode-refusal decode-refusal decode-alaw-refusal
     pack-refusal unpack-refusal answer encode decode decode-alaw pack unpack text digits decimal word ending-text mark-text line header
     F-line S-line numbered frame-lines E-line file-words file-bytes frames listing every

@@ -7,9 +7,9 @@ use Rattle.math_lists.specs.Cut.{cut}
 use Rattle.standard.specs.Frame.{widths}
 
 -- the low bits of a number, as many as the width says, the lowest first
-unfoldable pub bits : ℕ → ℕ → List ℕ
-bits zero n = []
-bits (suc width) n = n % 2 ∷ bits width (n / 2)
+unfoldable pub binary : ℕ → ℕ → List ℕ
+binary zero n = []
+binary (suc width) n = n % 2 ∷ binary width (n / 2)
 
 -- the number that has these bits, the lowest first
 unfoldable pub value : List ℕ → ℕ
@@ -20,7 +20,7 @@ value (b ∷ bs) = b + 2 * value bs
 
 -- b1 to b260, in the order of table 1.1 of the standard
 unfoldable pub frame-bits : List ℤ → List ℕ
-frame-bits words = flatten (zipWith (λ width c. bits width (natAbs c)) widths words)
+frame-bits words = flatten (zipWith (λ width c. binary width (natAbs c)) widths words)
 
 -- 33 bytes, b1 in the lowest bit of the first byte, b9 in the lowest bit of the second, and so on; the last four bits are 0
 unfoldable pub packed : List ℤ → List ℕ
@@ -29,7 +29,7 @@ packed words = map value (cut (replicate 33 8) (frame-bits words ++ replicate 4 
 -- ---- unpacking
 
 unfoldable pub byte-bits : List ℕ → List ℕ
-byte-bits bytes = flatten (map (bits 8) bytes)
+byte-bits bytes = flatten (map (binary 8) bytes)
 
 -- the 76 codewords that the bits of the bytes have, field by field
 unfoldable pub unpacked : List ℕ → List ℤ
