@@ -4,11 +4,11 @@ use mathlib.Core.Path.{_≡_, refl}
 use mathlib.Core.List.{List, _∷_, _++_, zipWith}
 use lib.IntN.{ℤ, pos, natAbs}
 use lib.ListN.{take}
-use mir.Syntax.{w32}
-use Rattle.standard.specs.Arithmetic.{shr, add, sub, peak}
+use Rattle.standard.specs.Arithmetic.{add, peak}
 use Rattle.standard.specs.Frame.{sub-words}
 use Rattle.law_fields.specs.Gains.{gain-in}
-use Rattle.standard.specs.LongTerm.{scal, lag-search, Nc, L-power, bc, dpp, residual}
+use Rattle.long_search.specs.Search.{L-max, gain-code}
+use Rattle.standard.specs.LongTerm.{lag-search, Nc, L-power, dpp, residual}
 use Rattle.standard.specs.Rpe.{weighted, grid, Mc, xmaxc, amplitude, xMc, xMp, ep, reconstructed}
 use Rattle.standard.specs.Coder.{Subcoded, sub-coded}
 
@@ -37,7 +37,7 @@ module _ (dp d : List ℤ) where
   lag = Nc (lag-search d dp)
 
   abbrev pub gain : ℕ
-  gain = bc (shr w32 (lag-search d dp .sum) (sub (pos 6) (scal d))) (L-power lag dp)
+  gain = gain-code d dp
 
   -- 4.2.12: the estimate and the residual
   abbrev pub estimate : List ℤ
@@ -57,7 +57,7 @@ module _ (dp d : List ℤ) where
 
   -- the gain code is one of four
   pub gain-range : gain ≤ 3
-  gain-range = gain-in (shr w32 (lag-search d dp .sum) (sub (pos 6) (scal d))) (L-power lag dp)
+  gain-range = gain-in (L-max d dp) (L-power lag dp)
 
   module _ {m : ℕ} {c : ℤ} {xs : List ℤ} (em : m ≡ Mc filtered) (ec : c ≡ block-code filtered) (ex : xs ≡ pulse-codes filtered) where
     -- its codewords are these
