@@ -8,7 +8,7 @@ use mathlib.Core.List.{List, [], _∷_, map}
 use native.Mathlib.Omega.{arith}
 use lib.IntN.{ℤ}
 use lib.Dec.{ltb}
-use lib.ListN.{length, length-map, replicate}
+use lib.ListN.{length, getD, length-map, replicate, List·getD-map}
 use Rattle.math_lists.specs.Every.{every}
 use Rattle.standard.specs.Lpc as lpc
 use Rattle.standard.specs.House as house
@@ -106,3 +106,21 @@ module _ (e : Encoder) (samples lent : List ℤ) (a : EncodeAnswer) (left : List
       let r = rw (encode-done (coder e) samples lent (sym number-is ∙ h)) at (p .answer) in
       let four = length-map (answers.encode (coder e) samples lent .marks) mark-number ∙ encode-marks-length (coder e) samples lent in
       (rw r (ended (t .ending)), ap (λ (b : EncodeAnswer). length (b .marks)) (p .answer) ∙ four, rw r (all-marked (t .subframes)))
+
+  -- each mark that is answered is the number of its own lag's mark
+  pub mark-is : (i : ℕ) → getD (a .marks) i 0 ≡ mark-number (getD (answers.encode (coder e) samples lent .marks) i none)
+  unfolding encode-answer mark-number
+  mark-is i = ap (λ (b : EncodeAnswer). getD (b .marks) i 0) (p .answer)
+      ∙ List·getD-map mark-number (answers.encode (coder e) samples lent .marks) i none
+
+  -- so a lag that was found is not answered as one that was not
+  pub found-as-rule : (i : ℕ) → getD (answers.encode (coder e) samples lent .marks) i none ≡ some house.found → ¬ (getD (a .marks) i 0 ≡ 1)
+  unfolding mark-number
+  found-as-rule i f r = absurd (omega (arith, sym r ∙ mark-is i ∙ ap mark-number f))
+
+  -- and a recursion that stopped at n is not said to have stopped at another step
+  pub other-stop : (n m : ℕ) → answers.encode (coder e) samples lent .ending ≡ some (lpc.stopped n) → ¬ (m ≡ n) → ¬ (a .ending ≡ 16 + m)
+  unfolding encode-answer ending-number
+  other-stop n m s h r =
+      let said : a .ending ≡ 16 + n = ap (λ (b : EncodeAnswer). b .ending) (p .answer) ∙ ap ending-number s in
+      h (omega (arith, sym r ∙ said))

@@ -81,7 +81,7 @@ ending-back (Ending-of.Stopped n) = refl
 ending-back Ending-of.Complete = refl
 
 -- so two endings that stand for the same are equal
-same-ending : (e f : Ending) → ending e ≡ ending f → e ≡ f
+pub same-ending : (e f : Ending) → ending e ≡ ending f → e ≡ f
 same-ending e f p = sym (ending-back e) ∙ ap ending-of p ∙ ending-back f
 
 -- a mark is read back too

@@ -22,7 +22,7 @@ use Rattle.encoder.specs.declared.Encoder.{Encoder}
 use Rattle.encoder.specs.declared.Ending.the-variants as Ending-of
 use Rattle.encoder.specs.declared.Mark.the-variants as Mark-of
 use Rattle.encoder.specs.declared.Encoded.{Encoded}
-use Rattle.encoder.specs.Promise.{coder, ending, mark, marks, Encodes, refused}
+use Rattle.encoder.specs.Promise.{coder, ending, mark, marks, Encodes, same-ending, refused}
 use Rattle.encoder.specs.Calls as encoder
 use Rattle.decoder.specs.declared.Decoder.{Decoder}
 use Rattle.decoder.specs.declared.Decoded.{Decoded}
@@ -89,6 +89,19 @@ pub refuses-heard : (d : Decoder) (codewords : List ℤ) (lent : List ℕ) (a : 
     → length lent ≡ 160 → length codewords ≡ 76 → sound-decoder (memory d) ≡ true → ¬ (a .number ≡ 0)
     → ¬ DecodesAlaw d codewords lent a left
 refuses-heard d codewords lent a left l k s n p = n (decode-alaw-refuses d codewords lent a left p .allows l k s)
+
+-- ---- an unsound state taken: what 0 answers was sound
+
+taken : {A B : Type 0} (n : ℕ) (xs : List A) (ys : List B) (good : Bool) → Exactly n 160 76 1 2 3 xs ys good → good ≡ false → ¬ (n ≡ 0)
+taken n xs ys good x h e = true≢false (sym (x .allowed e .2) ∙ h)
+
+pub unsound-coded : (e : Encoder) (samples lent : List ℤ) (a : Encoded) (left : List ℤ)
+    → sound-coder (coder e) ≡ false → a .number ≡ 0 → ¬ Encodes e samples lent a left
+unsound-coded e samples lent a left h n p = taken (a .number) samples lent _ (encode-refuses e samples lent a left p) h n
+
+pub unsound-decoded : (d : Decoder) (codewords lent : List ℤ) (a : Decoded) (left : List ℤ)
+    → sound-decoder (memory d) ≡ false → a .number ≡ 0 → ¬ Decodes d codewords lent a left
+unsound-decoded d codewords lent a left h n p = taken (a .number) lent codewords _ (decode-refuses d codewords lent a left p) h n
 
 -- ---- the codewords counted before the samples or the octets: number 2 where the samples or the octets are already wrong
 
@@ -162,6 +175,17 @@ module _ (e : Encoder) (h : coder e ≡ home-coder) where
   unfolding coder home-coder
   offset-home n p = unlike (suc n) 0 (omega arith) (sym p ∙ ap (λ c. c .L-z2) h)
 
+module _ (d : Decoder) (h : memory d ≡ home-decoder) where
+  -- a home that remembers another lag than 40
+  pub lagless-home : (n : ℕ) → ¬ (n ≡ 40) → ¬ (d .nrp ≡ pos n)
+  unfolding memory home-decoder
+  lagless-home n k p = unlike n 40 k (sym p ∙ ap (λ m. m .nrp) h)
+
+  -- a home with a history
+  pub filled-home : (n : ℕ) → ¬ (d .drp at 0 ≡ pos (suc n))
+  unfolding memory home-decoder
+  filled-home n p = unlike (suc n) 0 (omega arith) (sym p ∙ ap (λ m. m .drp at 0) h)
+
 -- a refusal that gives an ending: it says silent
 pub refused-as-silent : (e : Encoder) (samples lent : List ℤ) (a : Encoded) (left : List ℤ) → Encodes e samples lent a left
     → (n : ℕ) → a .number ≡ suc n → ¬ (a .ending ≡ Ending-of.Silent)
@@ -220,6 +244,12 @@ module _ (e : Encoder) (h : coder e ≡ home-coder) (a : Encoded) (w : List ℤ)
       = ap (λ ms. getD ms 1 none) (p .marks ∙ ap (λ c. answers.encode c pulses (zeros 76) .marks) h ∙ computed .marks)
       in
       true≢false (ap says-found (sym measured ∙ ap mark s))
+
+-- another stop number, or none: where the recursion stopped at n, the answer says so
+pub stop-said : (e : Encoder) (samples lent : List ℤ) (a : Encoded) (left : List ℤ) → Encodes e samples lent a left
+    → (n : ℕ) → answers.encode (coder e) samples lent .ending ≡ some (lpc.stopped n) → a .ending ≡ Ending-of.Stopped n
+unfolding ending
+stop-said e samples lent a left p n s = same-ending (a .ending) (Ending-of.Stopped n) (p .ending ∙ s)
 
 -- every lag marked "found": in silence none is
 pub invented-found : (e : Encoder) → coder e ≡ home-coder → (a : Encoded) (w : List ℤ) → Encodes e (zeros 160) (zeros 76) a w
