@@ -5,7 +5,7 @@ ghost use mathlib.Core.List.{_++_};
 ghost use lib.IntN.{pos};
 ghost use lib.ListN.{length, replicate};
 
-// A list of 280: the history, and after it zeros where the four sub-frames will store 160 samples.
+// A list of 280: the history, and after it zeros where the four sub-frames store 160 samples.
 pub fn remembered(dp: [i16; 120]) -> [i16; 280]
     ensures { λ r. ⌜ r ≡ dp ++ replicate 160 (pos 0) ⌝ }
 {
