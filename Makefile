@@ -14,6 +14,8 @@ VERSION = $(shell cat VERSION)
 PROGRAMS = lister encode decode together encode_alaw decode_alaw expand
 DIST = build/rpeltp-$(VERSION)
 SOURCES = crates.txt $(shell find crates -type f)
+# rt works in batches and waits for the slowest of each: two checks for each core leave less of a core idle.
+JOBS = $(shell expr 2 '*' $$(nproc))
 PYTHON = $(wildcard outside/*.py outside/tests/*.py bench/*.py)
 
 run:
@@ -30,7 +32,7 @@ test:
 	rt fmt --check
 	mkdir -p build
 	rm -f build/proved
-	{ rt ci && touch build/proved; } 2>&1 | tee build/proofs.txt
+	{ RT_JOBS=$(JOBS) rt ci && touch build/proved; } 2>&1 | tee build/proofs.txt
 	test -f build/proved
 	$(MAKE) outside
 	@tail -n 1 build/proofs.txt

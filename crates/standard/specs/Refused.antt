@@ -14,9 +14,7 @@ use Rattle.standard.specs.House.{home-coder, home-decoder, sound-coder, 
 use Rattle.standard.specs.Answers.{encode, decode, pack, unpack}
 use Rattle.standard.specs.Listing.{text, ending-text, E-line}
 use Rattle.standard.specs.Opened.{opened}
-
-abbrev zeros : ℕ → List ℤ
-zeros n = replicate n (pos 0)
+use Rattle.standard.specs.Easy.{zeros}
 
 -- home, except for these values
 abbrev pub coder-with : ℤ → ℤ → Coder

@@ -83,7 +83,7 @@ worked = record {
   zero-packed = refl;
 }
 
-pub record Ends : Type 0 where
+pub record RangeEnds : Type 0 where
   pub add-high : add (pos 32767) (pos 1) ≡ pos 32767
   pub sub-low : sub (neg 32768) (pos 1) ≡ neg 32768
   pub L-add-high : L-add (pos 2147483647) (pos 1) ≡ pos 2147483647
@@ -95,7 +95,7 @@ pub record Ends : Type 0 where
   pub shl-low-bits : shl w16 (pos 32767) (pos 1) ≡ neg 2
   pub shl-right : shl w32 (neg 3) (neg 1) ≡ neg 2
 
-pub ends : Ends
+pub ends : RangeEnds
 unfolding opened
 ends = record {
   add-high = refl;
