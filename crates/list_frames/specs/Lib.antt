@@ -1,3 +1,4 @@
--- All that the specs of this crate have: what listed promises, and that its calls give the whole listing.
+-- All that the specs of this crate have: what listed promises, that the calls give the whole listing, and useless versions of ended.
 pub mod Promise
 pub mod Whole
+pub mod Useless

@@ -38,8 +38,8 @@ tabbed-next ws i h =
     rw (add-one, take-suc ws i (pos 0) h, map-append word (take i ws) (w ∷ []), tabbed-append, append-nil (word w)) refl
 
 -- as many digits as n needs
-abbrev pub places : ℕ → ℕ
-places n = first (λ k. ltb n (10 ^ k)) n 1
+abbrev pub digit-count : ℕ → ℕ
+digit-count n = first (λ k. ltb n (10 ^ k)) n 1
 
 -- there are k of the last k digits
 pub digits-length : (k n : ℕ) → length (digits k n) ≡ k
@@ -57,10 +57,10 @@ digits-next i rest out h =
     rw (split, getD-set-same out i d 0 h, drop-set-lt (suc i) out i d (omega arith), append-snoc)
 
 -- a number has as many digits as it needs
-pub decimal-length : (n : ℕ) → length (decimal n) ≡ places n
+pub decimal-length : (n : ℕ) → length (decimal n) ≡ digit-count n
 unfolding decimal
-decimal-length n = digits-length (places n) n
+decimal-length n = digits-length (digit-count n) n
 
 -- and below ten million at most seven
-pub places-most : (n : ℕ) → n < 10000000 → places n ≤ 7
-places-most n h = first-until (λ k. ltb n (10 ^ k)) n 1 7 (omega arith) (lt-ltb n 10000000 h)
+pub digit-count-most : (n : ℕ) → n < 10000000 → digit-count n ≤ 7
+digit-count-most n h = first-until (λ k. ltb n (10 ^ k)) n 1 7 (omega arith) (lt-ltb n 10000000 h)

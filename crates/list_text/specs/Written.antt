@@ -4,7 +4,7 @@ use mathlib.Core.Path.{_≡_, refl, sym, ap, _∙_}
 use mathlib.Core.List.{List, [], _++_, append-assoc}
 use native.Mathlib.Omega.{arith}
 use lib.ListN.{length, take, drop, take-append-drop, length-append, length-take, length-drop}
-use lib.Seq.{length-take-le, drop-drop}
+use lib.Seq.{length-take-le, take-append-seam, drop-drop}
 use Rattle.math_lists.specs.Parts.{put, lent-next}
 
 module _ {A : Type 0} where
@@ -38,6 +38,12 @@ pub record Puts {A : Type 0} (a : ℕ) (t xs : List A) (r : ℕ) (ys : List A) :
 -- nothing put
 pub puts-none : {A : Type 0} (a : ℕ) (xs : List A) → Puts a [] xs a xs
 puts-none a xs = record { place = omega arith; text = sym (written-none a xs) }
+
+-- what is put from the front is what the list begins with
+pub puts-front : {A : Type 0} {t xs : List A} {r : ℕ} {ys : List A} → Puts 0 t xs r ys → take r ys ≡ t
+puts-front {t} {xs} p =
+    let r : _ ≡ length t = p .place ∙ omega arith in
+    rw (r, p .text) (take-append-seam t (drop (length t) xs))
 
 module _ {A : Type 0} {a : ℕ} {t xs : List A} {r : ℕ} {ys : List A} (p : Puts a t xs r ys) (h : r ≤ length xs) where
   -- the list keeps its length

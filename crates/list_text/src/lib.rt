@@ -6,7 +6,7 @@ ghost use lib.IntN.{natAbs};
 ghost use lib.ListN.{length};
 ghost use Rattle.standard.specs.Listing as standard;
 ghost use Rattle.list_text.specs.Written.{Puts};
-ghost use Rattle.list_text.specs.Fields.{places, tabbed};
+ghost use Rattle.list_text.specs.Fields.{digit-count, tabbed};
 
 // Copies t into out, which is as long.
 fn copied(t: &[u8], out: &mut [u8])
@@ -31,7 +31,7 @@ pub fn text(t: &[u8], at: usize, out: &mut [u8]) -> usize
 // How many digits a number needs.
 fn width(n: u32) -> usize
     requires { ⌜ n < 10000000 ⌝ }
-    ensures { λ r. ⌜ r ≡ places n ⌝ }
+    ensures { λ r. ⌜ r ≡ digit-count n ⌝ }
 {
     let mut k: usize = 1;
     let mut power: u32 = 10;

@@ -7,7 +7,7 @@ use lib.ListN.{length, take, drop, length-take, length-drop}
 use borrow.Author.Needs.{needs}
 use Rattle.math_lists.specs.Parts.{put}
 use Rattle.standard.specs.Listing as standard
-use Rattle.list_text.specs.Fields.{places, places-most, decimal-length}
+use Rattle.list_text.specs.Fields.{digit-count, digit-count-most, decimal-length}
 use Rattle.list_text.proofs.decimal.Statement.{statement}
 use Rattle.list_text.proofs.decimal.Tie as tie
 
@@ -20,10 +20,10 @@ module _ (t : tie.After-width) where
   width-is = t .width .ensures ∙ sym (decimal-length (s .args .n))
 
   width-most : t .width .result ≤ 7
-  width-most = omega (arith, t .width .ensures, places-most (s .args .n) (s .pre .0))
+  width-most = omega (arith, t .width .ensures, digit-count-most (s .args .n) (s .pre .0))
 
   -- the part that is passed
-  part-length : let a = s .args .at in length (take ((a + t .width .result) - a) (drop a (s .args .out .now))) ≡ places (s .args .n)
+  part-length : let a = s .args .at in length (take ((a + t .width .result) - a) (drop a (s .args .out .now))) ≡ digit-count (s .args .n)
   part-length = simp (length-take, length-drop) (omega (arith, t .width .ensures, width-most, s .pre .1))
 
 returns : tie.Need-returns

@@ -11,12 +11,12 @@ use borrow.Author.Needs.{needs}
 use borrow.Author.Tests.{lt-ltb, le-ltb}
 use Rattle.math_integers.specs.Halves.{le-or-lt}
 use Rattle.math_lists.specs.First.{first, first-here, first-later, first-end}
-use Rattle.list_text.specs.Fields.{places}
+use Rattle.list_text.specs.Fields.{digit-count}
 use Rattle.list_text.proofs.width.Statement.{statement}
 use Rattle.list_text.proofs.width.Tie as tie
 
 abbrev Inv-loop : tie.InvT-loop
-Inv-loop n k₀ power₀ k power = (power ≡ 10 ^ k) × (k < power) × (first (λ j. ltb n (10 ^ j)) (suc n - k) k ≡ places n)
+Inv-loop n k₀ power₀ k power = (power ≡ 10 ^ k) × (k < power) × (first (λ j. ltb n (10 ^ j)) (suc n - k) k ≡ digit-count n)
 
 abbrev μ-loop : tie.MeasureT-loop
 μ-loop n k₀ power₀ k power = n + 10 - power

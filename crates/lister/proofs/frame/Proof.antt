@@ -1,23 +1,15 @@
 -- The frame's bytes are copied, its lines are made in a buffer of their own, and these are copied to index `at`.
-use Prim.Native.Nat.{ℕ, _-_}
-use mathlib.Core.Path.{_≡_, _∙_}
-use mathlib.Core.List.{List}
+use Prim.Native.Nat.{_-_}
+use mathlib.Core.Path.{_≡_}
 use native.Mathlib.Nat.{sub-zero}
 use native.Mathlib.Omega.{arith}
-use lib.ListN.{length, take, drop, replicate}
-use lib.Seq.{take-append-seam}
+use lib.ListN.{length, take, replicate}
 use borrow.Author.Needs.{needs}
-use Rattle.list_text.specs.Written.{Puts, puts-length}
+use Rattle.list_text.specs.Written.{puts-front, puts-length}
 use Rattle.list_frames.specs.Promise.{Lists, listed, state}
 use Rattle.io_streams.specs.Frames.{puts-all}
 use Rattle.lister.proofs.frame.Statement.{statement}
 use Rattle.lister.proofs.frame.Tie as tie
-
--- what is put from the front is what the buffer begins with
-puts-front : (t xs : List ℕ) {r : ℕ} {ys : List ℕ} → Puts 0 t xs r ys → take r ys ≡ t
-puts-front t xs p =
-    let r : _ ≡ length t = p .place ∙ omega arith in
-    rw (r, p .text) (take-append-seam t (drop (length t) xs))
 
 -- what listed promises for the frame
 module _ (t : tie.After-listed) where
@@ -46,7 +38,7 @@ returns c =
     let t = lines .before .before in
     let a = start t .args in
     let front : take (t .listed .result .length - 0) (t .listed .last .1 .1 .0) ≡ listed (state (a .l)) (a .bytes .now) .1 =
-    rw sub-zero (puts-front _ _ (lists t .lines)) in
+    rw sub-zero (puts-front (lists t .lines)) in
     let q = rw front at (put .text2 .ensures) in
     (lists t .next, (q, omega (arith, q .place, lists t .lines .place, t .listed .ensures .1)))
 
