@@ -14,7 +14,7 @@ use Rattle.math_lists.specs.First.{first-ge, first-holds, first-until}
 use Rattle.standard.specs.Listing.{text, digits, decimal, E-line}
 use Rattle.list_text.specs.Written.{Puts, puts-front}
 use Rattle.list_text.specs.Fields.{digit-count, digit-count-most}
-use Rattle.list_lines.specs.Lines.{E-end}
+use Rattle.list_borders.specs.Borders.{E-end}
 use Rattle.list_frames.specs.declared.Lister.{Lister}
 
 -- ---- the E line tells its count

@@ -23,7 +23,7 @@ use Rattle.standard.specs.Listing.{frame-bytes, most-frames, header, frame-line
 use Rattle.law_arithmetic.specs.Within.{word, word-yes}
 use Rattle.law_soundness.specs.States.{home-coder-sound, coded-sound}
 use Rattle.list_text.specs.Written.{Puts, puts-front}
-use Rattle.list_lines.specs.Lines.{E-beyond}
+use Rattle.list_borders.specs.Borders.{E-beyond}
 use Rattle.list_frames.specs.declared.Lister.{Lister}
 use Rattle.list_frames.specs.declared.Listed.{Listed}
 use Rattle.list_frames.specs.Promise.{State, listed, listed-next, state, Lists}

@@ -84,11 +84,11 @@ impl Lister {
         ensures room { λ r. ⌜ r ≤ 1024 ⌝ }
     {
         if 1000000 < self.frames {
-            return list_lines::e_line(320000001, out);
+            return list_borders::e_line(320000001, out);
         }
         if 320000000 < rest {
-            return list_lines::e_line(320000001, out);
+            return list_borders::e_line(320000001, out);
         }
-        list_lines::e_line(self.frames * 320 + rest, out)
+        list_borders::e_line(self.frames * 320 + rest, out)
     }
 }

@@ -1,2 +1,2 @@
--- All that the specs of this crate have: the lines of a frame, the header and the E line, as text.
+-- All that the specs of this crate have: the lines of a frame, as text.
 pub mod Lines

@@ -1,5 +1,5 @@
 -- The lines of a frame from what encode answers, and that they are those of the definition (`standard`, Listing).
-use Prim.Native.Nat.{ℕ, suc, _/_, _%_, _≤_, _<_}
+use Prim.Native.Nat.{ℕ, suc, _<_}
 use mathlib.Core.Path.{_≡_, refl, sym, _∙_}
 use mathlib.Core.Bool.{true}
 use mathlib.Core.Option.{Option, none, some}
@@ -12,9 +12,7 @@ use Rattle.standard.specs.Frame.{sub-words, words}
 use Rattle.standard.specs.Lpc.{Ending}
 use Rattle.standard.specs.Coder.{Subcoded, Coded, frame}
 use Rattle.standard.specs.House.{Mark, mark}
-use Rattle.standard.specs.Listing.{text, decimal, word, ending-text, mark-text, digits, line, header, F-line, S-line, E-line, numbered, frame-lines}
-use borrow.Author.Tests.{lt-ltb, le-ltb}
-use Rattle.math_lists.specs.First.{first}
+use Rattle.standard.specs.Listing.{text, decimal, word, ending-text, mark-text, F-line, S-line, numbered, frame-lines}
 use Rattle.math_lists.specs.Every.{every, every-at, every-map}
 use Rattle.math_lists.specs.Lengths.{sized-length}
 use Rattle.law_lengths.specs.Subframes.{full}
@@ -133,25 +131,3 @@ lines-are n c h =
     by-list n (c .ending) (c .LARc) (c .subframes) (h .LARc)
     (sym (length-map (c .subframes) (λ (s : Subcoded). s .codes)) ∙ h .subframes)
     (sym (every-map full (λ (s : Subcoded). s .codes) (c .subframes)) ∙ h .pulses)
-
--- ---- the first line and the last
-
-pub header-is : header ≡ text "RPELTP\t1\n"
-unfolding header line text decimal digits first
-header-is = refl
-
--- the E line beyond the limit
-pub E-limit : (bytes : ℕ) → 320000000 < bytes → E-line bytes ≡ text "E\t1000000\t0\t0\tlimit\n"
-unfolding E-line line text decimal digits first
-E-limit bytes h = rw (lt-ltb 320000000 bytes h) refl
-
--- so beyond the limit it does not depend on the number of bytes
-pub E-beyond : (a b : ℕ) → 320000000 < a → 320000000 < b → E-line a ≡ E-line b
-E-beyond a b h k = E-limit a h ∙ sym (E-limit b k)
-
--- the E line up to the limit
-pub E-end : (bytes : ℕ) → bytes ≤ 320000000
-    → E-line bytes
-    ≡ (((text "E" ++ 9 ∷ decimal (bytes / 320)) ++ (9 ∷ decimal (bytes % 320 / 2))) ++ (9 ∷ decimal (bytes % 2))) ++ text "\tend\n"
-unfolding E-line tabbed text
-E-end bytes h = rw (le-ltb 320000000 bytes h, line-is (text "E") _) (simp append-assoc refl)

@@ -1,4 +1,4 @@
-// House rules, 'Listing': the lines as bytes, from what encode answers.
+// House rules, 'Listing': the lines of a frame as bytes, from what encode answers.
 use encoder::Ending;
 use encoder::Mark;
 use encoder::Marks;
@@ -7,7 +7,6 @@ ghost use mathlib.Core.List.{[], _∷_, _++_, map};
 ghost use Prim.Native.Nat.{_+_, _*_, _≤_};
 ghost use lib.ListN.{length};
 ghost use Rattle.standard.specs.Listing.{most-frames, decimal, word};
-ghost use Rattle.standard.specs.Listing as standard;
 ghost use Rattle.encoder.specs.Promise.{ending, mark};
 ghost use Rattle.encoder.specs.Promise as told;
 ghost use Rattle.list_text.specs.Written.{Puts};
@@ -106,27 +105,4 @@ pub fn frame_lines(frame: u32, e: Ending, marks: Marks, c: &[i16], out: &mut [u8
     let s2 = s_line(frame, 2, second, &c[25..42], s1, out);
     let s3 = s_line(frame, 3, third, &c[42..59], s2, out);
     s_line(frame, 4, fourth, &c[59..76], s3, out)
-}
-
-// The header: the name and the format's number.
-pub fn header(out: &mut [u8; 1024]) -> usize
-    ensures { λ r. ⌜ Puts 0 standard.header (now (out .entry)) r (now (out .exit)) ⌝ }
-    ensures room { λ r. ⌜ r ≤ 1024 ⌝ }
-{
-    list_text::text(b"RPELTP\t1\n", 0, out)
-}
-
-// The E line of an input of so many bytes.
-pub fn e_line(bytes: u32, out: &mut [u8; 1024]) -> usize
-    ensures { λ r. ⌜ Puts 0 (standard.E-line bytes) (now (out .entry)) r (now (out .exit)) ⌝ }
-    ensures room { λ r. ⌜ r ≤ 1024 ⌝ }
-{
-    if 320000000 < bytes {
-        return list_text::text(b"E\t1000000\t0\t0\tlimit\n", 0, out);
-    }
-    let name = list_text::text(b"E", 0, out);
-    let frames = list_text::field(bytes / 320, name, out);
-    let samples = list_text::field(bytes % 320 / 2, frames, out);
-    let rest = list_text::field(bytes % 2, samples, out);
-    list_text::text(b"\tend\n", rest, out)
 }

@@ -122,7 +122,7 @@ fn turn(l: Lister, there: usize, room: &mut [u8], out: &mut [u8]) -> After
 // line.
 fn main() {
     let mut text = [0; 1024];
-    let length = list_lines::header(&mut text);
+    let length = list_borders::header(&mut text);
     if !print(text, length) {
         return;
     }

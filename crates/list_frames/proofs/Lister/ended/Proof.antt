@@ -2,7 +2,7 @@
 use Prim.Native.Nat.{_+_, _*_}
 use native.Mathlib.Omega.{arith}
 use borrow.Author.Needs.{needs}
-use Rattle.list_lines.specs.Lines.{E-beyond}
+use Rattle.list_borders.specs.Borders.{E-beyond}
 use Rattle.list_frames.proofs.Lister.ended.Statement.{statement}
 use Rattle.list_frames.proofs.Lister.ended.Tie as tie
 

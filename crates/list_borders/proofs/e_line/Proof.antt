@@ -5,9 +5,9 @@ use native.Mathlib.Omega.{arith}
 use borrow.Author.Needs.{needs}
 use Rattle.standard.specs.Listing.{text}
 use Rattle.list_text.specs.Written.{puts-then}
-use Rattle.list_lines.specs.Lines.{E-limit, E-end}
-use Rattle.list_lines.proofs.e_line.Statement.{statement}
-use Rattle.list_lines.proofs.e_line.Tie as tie
+use Rattle.list_borders.specs.Borders.{E-limit, E-end}
+use Rattle.list_borders.proofs.e_line.Statement.{statement}
+use Rattle.list_borders.proofs.e_line.Tie as tie
 
 returns : tie.Need-returns
 unfolding text

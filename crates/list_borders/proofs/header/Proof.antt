@@ -2,9 +2,9 @@
 use native.Mathlib.Omega.{arith}
 use borrow.Author.Needs.{needs}
 use Rattle.standard.specs.Listing.{text}
-use Rattle.list_lines.specs.Lines.{header-is}
-use Rattle.list_lines.proofs.header.Statement.{statement}
-use Rattle.list_lines.proofs.header.Tie as tie
+use Rattle.list_borders.specs.Borders.{header-is}
+use Rattle.list_borders.proofs.header.Statement.{statement}
+use Rattle.list_borders.proofs.header.Tie as tie
 
 returns : tie.Need-returns
 unfolding text
