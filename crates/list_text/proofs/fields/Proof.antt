@@ -45,12 +45,6 @@ module _ (b : tie.At-loop Inv-loop μ-loop) where
   long : length (b .loop .out) ≡ length (s .args .out .now)
   long = puts-length (b .loop .inv .2) within
 
-field-requires : tie.Need-field-requires Inv-loop μ-loop
-field-requires c κs =
-    let b = c .before .before .before .before in
-    let f : SFits w16 (word b) = sfits-of (c .before .before .size-arg .given) in
-    (omega (arith, c .before .size .ensures, know f), omega (arith, b .loop .inv .1, long b, s b .pre))
-
 loop-again : tie.Need-loop-again Inv-loop μ-loop
 unfolding standard.word
 loop-again c =
@@ -78,6 +72,12 @@ returns c =
     subst (λ (ws : List ℤ). Puts (s b .args .at) (tabbed (map standard.word ws)) (s b .args .out .now) (b .loop .end) (b .loop .out))
     all p in
     (put, omega arith)
+
+field-requires : tie.Need-field-requires Inv-loop μ-loop
+field-requires c κs =
+    let b = c .before .before .before .before in
+    let f : SFits w16 (word b) = sfits-of (c .before .before .size-arg .given) in
+    (omega (arith, c .before .size .ensures, know f), omega (arith, b .loop .inv .1, long b, s b .pre))
 
 pub fields-spec : {M : Type 1} → statement M
 fields-spec =
