@@ -57,3 +57,14 @@ module _ {A : Type 0} {a : ℕ} {t xs : List A} {r : ℕ} {ys : List A} (p : Put
         place = rw length-append (omega (arith, p .place, q .place));
         text = q .text ∙ rw (p .place, p .text) (written-then a t u xs (omega (arith, p .place)));
       }
+
+-- the same of a text that ends at k at the latest
+module _ {A : Type 0} {a k : ℕ} {t xs : List A} {r : ℕ} {ys : List A} (p : Puts a t xs r ys × (r ≤ k)) where
+  -- where there were m more bytes behind k, there are m behind the text
+  pub puts-room : (m : ℕ) → k + m ≤ length xs → r + m ≤ length ys
+  puts-room m h = omega (arith, p .1, puts-length (p .0) (omega (arith, p .1)))
+
+  -- and one of at most m bytes, put where it ends, ends at k + m at the latest
+  pub puts-more : (m : ℕ) → k ≤ length xs → {u : List A} {s : ℕ} {zs : List A}
+      → Puts r u ys s zs × (s ≤ r + m) → Puts a (t ++ u) xs s zs × (s ≤ k + m)
+  puts-more m h q = (puts-then (p .0) (omega (arith, p .1)) (q .0), omega (arith, p .1, q .1))

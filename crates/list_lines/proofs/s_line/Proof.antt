@@ -1,33 +1,19 @@
--- Four texts, each put behind the one before (`puts-then`): the letter and the number, the sub-frame, the mark, the codewords.
--- A bound on the end of each shows that the next one fits.
+-- Four texts, each put behind the one before (`puts-more`): the letter and the number, the sub-frame, the mark, the codewords.
+-- A bound on the end of each shows that the next one fits (`puts-room`).
 use Prim.Native.Nat.{_+_, _≤_}
-use mathlib.Core.Path.{_≡_}
 use mathlib.Core.List.{_∷_, _++_}
 use native.Mathlib.Omega.{arith}
-use lib.ListN.{length}
 use borrow.Author.Needs.{needs}
 use Rattle.standard.specs.Listing.{text, decimal}
 use Rattle.encoder.specs.Promise.{mark}
-use Rattle.list_text.specs.Written.{Puts, puts-length, puts-then}
+use Rattle.list_text.specs.Written.{Puts, puts-room, puts-more}
 use Rattle.list_lines.specs.Lines.{mark-field, S-text}
 use Rattle.list_lines.proofs.s_line.Statement.{statement}
 use Rattle.list_lines.proofs.s_line.Tie as tie
 
--- after the letter and the frame's number
-module _ (t : tie.After-led) where
-  abbrev start : tie.Start
-  start = t .before .before .before .before
-
-  led-put : Puts (start .args .at) (text "S" ++ 9 ∷ decimal (start .args .frame)) (start .args .out .now)
-      (t .led .result) (t .led .last .1 .1 .1 .0)
-  unfolding text
-  led-put = t .led .ensures .0
-
-  led-within : t .led .result ≤ length (start .args .out .now)
-  led-within = omega (arith, t .led .ensures .1, start .pre .1)
-
-  led-length : length (t .led .last .1 .1 .1 .0) ≡ length (start .args .out .now)
-  led-length = puts-length led-put led-within
+-- the start, from after the letter and the frame's number
+abbrev start : tie.After-led → tie.Start
+start t = t .before .before .before .before
 
 -- after the sub-frame's number
 module _ (t : tie.After-field) where
@@ -38,33 +24,22 @@ module _ (t : tie.After-field) where
   begun = start led
 
   sub-put : Puts (begun .args .at) ((text "S" ++ 9 ∷ decimal (begun .args .frame)) ++ (9 ∷ decimal (begun .args .n)))
-      (begun .args .out .now) (t .field .result) (t .field .last .1 .1 .0)
-  sub-put = puts-then (led-put led) (led-within led) (t .field .ensures .0)
-
-  sub-room : t .field .result ≤ begun .args .at + 17
-  sub-room = omega (arith, led .led .ensures .1, t .field .ensures .1)
-
-  sub-within : t .field .result ≤ length (begun .args .out .now)
-  sub-within = omega (arith, sub-room, begun .pre .1)
+      (begun .args .out .now) (t .field .result) (t .field .last .1 .1 .0) × (t .field .result ≤ begun .args .at + 9 + 8)
+  unfolding text
+  sub-put = puts-more (led .led .ensures) 8 (omega (arith, begun .pre .1)) (t .field .ensures)
 
 -- after the mark
 module _ (t : tie.After-mark-field) where
   abbrev subbed : tie.After-field
   subbed = t .before .before .before .before
 
-  abbrev from : tie.Start
-  from = begun subbed
+  abbrev s : tie.Start
+  s = begun subbed
 
-  how-put : Puts (from .args .at)
-      (((text "S" ++ 9 ∷ decimal (from .args .frame)) ++ (9 ∷ decimal (from .args .n))) ++ mark-field (mark (from .args .m)))
-      (from .args .out .now) (t .mark-field .result) (t .mark-field .last .1 .1 .0)
-  how-put = puts-then (sub-put subbed) (sub-within subbed) (t .mark-field .ensures .0)
-
-  how-room : t .mark-field .result ≤ from .args .at + 23
-  how-room = omega (arith, sub-room subbed, t .mark-field .ensures .1)
-
-  how-within : t .mark-field .result ≤ length (from .args .out .now)
-  how-within = omega (arith, how-room, from .pre .1)
+  how-put : Puts (s .args .at)
+      (((text "S" ++ 9 ∷ decimal (s .args .frame)) ++ (9 ∷ decimal (s .args .n))) ++ mark-field (mark (s .args .m)))
+      (s .args .out .now) (t .mark-field .result) (t .mark-field .last .1 .1 .0) × (t .mark-field .result ≤ s .args .at + 9 + 8 + 6)
+  how-put = puts-more (sub-put subbed) 6 (omega (arith, s .pre .1)) (t .mark-field .ensures)
 
 led-requires : tie.Need-led-requires
 led-requires c κs = let s = c .before .before .before in ((s .pre .0 .0, omega arith), omega (arith, s .pre .1))
@@ -73,26 +48,26 @@ field-requires : tie.Need-field-requires
 field-requires c κs =
     let t = c .before .before .before in
     let s = start t in
-    (omega (arith, s .pre .0 .1 .0), omega (arith, t .led .ensures .1, s .pre .1, led-length t))
+    (omega (arith, s .pre .0 .1 .0), puts-room (t .led .ensures) 8 (omega (arith, s .pre .1)))
 
 mark-field-requires : tie.Need-mark-field-requires
 mark-field-requires c κs =
     let t = c .before .before .before in
-    omega (arith, sub-room t, begun t .pre .1, puts-length (sub-put t) (sub-within t))
+    puts-room (sub-put t) 6 (omega (arith, begun t .pre .1))
 
 closed-requires : tie.Need-closed-requires
 closed-requires c κs =
     let t = c .before .before .before in
-    let s = from t in
-    omega (arith, how-room t, s .pre .0 .1 .1, s .pre .1, puts-length (how-put t) (how-within t))
+    omega (arith, puts-room (how-put t) 137 (omega (arith, s t .pre .1)), s t .pre .0 .1 .1)
 
 returns : tie.Need-returns
 unfolding S-text
 returns c =
     let q = c .before .before in
     let t = q .before .before .before .before in
-    let s = from t in
-    (puts-then (how-put t) (how-within t) (q .closed .ensures .0), omega (arith, how-room t, s .pre .0 .1 .1, q .closed .ensures .1))
+    let (p, r) = q .closed .ensures in
+    let put = puts-more (how-put t) 137 (omega (arith, s t .pre .1)) (p, omega (arith, r, s t .pre .0 .1 .1)) in
+    (put .0, omega (arith, put .1))
 
 pub s-line-spec : {M : Type 1} → statement M
 s-line-spec =
