@@ -24,7 +24,7 @@ line-is f [] = refl
 line-is f (g ∷ fs) = rw (line-is g fs, append-assoc)
 
 -- the fields of two lists, joined
-pub tabbed-append : (fs gs : List (List ℕ)) → tabbed (fs ++ gs) ≡ tabbed fs ++ tabbed gs
+tabbed-append : (fs gs : List (List ℕ)) → tabbed (fs ++ gs) ≡ tabbed fs ++ tabbed gs
 unfolding tabbed
 tabbed-append [] gs = refl
 tabbed-append (f ∷ fs) gs = rw (tabbed-append fs gs, append-assoc)

@@ -13,15 +13,15 @@ module _ {A : Type 0} where
   written a t xs = put a (length t) xs t
 
   -- an empty text changes nothing
-  pub written-none : (a : ℕ) (xs : List A) → written a [] xs ≡ xs
+  written-none : (a : ℕ) (xs : List A) → written a [] xs ≡ xs
   written-none a xs = take-append-drop a xs
 
   -- the list keeps its length
-  pub written-length : (a : ℕ) (t xs : List A) → a + length t ≤ length xs → length (written a t xs) ≡ length xs
+  written-length : (a : ℕ) (t xs : List A) → a + length t ≤ length xs → length (written a t xs) ≡ length xs
   written-length a t xs h = simp (length-append, length-take, length-drop) (omega arith)
 
   -- a text written where another one ends: the list has both, joined
-  pub written-then : (a : ℕ) (t u xs : List A) → a + length t ≤ length xs
+  written-then : (a : ℕ) (t u xs : List A) → a + length t ≤ length xs
       → written (a + length t) u (written a t xs) ≡ written a (t ++ u) xs
   written-then a t u xs h =
       let l : length (take a xs ++ t) ≡ a + length t = rw (length-append, length-take-le a xs (omega arith)) refl in

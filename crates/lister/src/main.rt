@@ -1,11 +1,13 @@
 // House rules, 'Listing': the lister. Samples from standard input, the lines of their frames to standard output.
 use list_frames::Lister;
 ghost use mathlib.Core.Path.{_≡_};
+ghost use mathlib.Core.Bool.{true};
 ghost use Prim.Native.Nat.{_+_, _-_, _*_, _≤_};
 ghost use lib.ListN.{length};
 ghost use Rattle.list_text.specs.Written.{Puts};
 ghost use Rattle.list_frames.specs.Promise.{state, listed};
 ghost use Rattle.io_streams.specs.Frames.{Through};
+ghost use Rattle.lister.specs.Turn.{Turned};
 
 // The lister after some frames, and the index where their text ends.
 struct Text {
@@ -91,7 +93,9 @@ fn left(frames: u32) -> usize
 // Where no whole frame is left, or the limit is reached, writes the last line.
 fn turn(l: Lister, there: usize, room: &mut [u8], out: &mut [u8]) -> After
     requires { ⌜ (there ≤ 20480) × (length (now room) ≡ 20480) × (length (now out) ≡ 65536) ⌝ }
-    ensures { λ r. ⌜ r .there ≤ 20480 ⌝ }
+    ensures room { λ r. ⌜ r .there ≤ 20480 ⌝ }
+    ensures turned { λ r. ⌜ (r .more ≡ true → Turned l there (now (room .entry)) (now (out .entry)) r
+        (now (room .exit)) (now (out .exit))) ⌝ }
 {
     let got = io_streams::gather(there, 320, room);
     let stopped = After {
