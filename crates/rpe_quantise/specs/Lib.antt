@@ -1,5 +1,6 @@
--- The laws of 4.2.15: exponents, doublings, pulse codes, left shifts; and that the promise of exp_and_mant decides its result.
+-- The laws of 4.2.15: exponents, doublings, shift counts, pulse codes, left shifts; and that the promise of exp_and_mant decides its result.
 pub mod Exponent
+pub mod Counts
 pub mod Doubling
 pub mod Pulse
 pub mod Shifts

@@ -2,15 +2,17 @@
 -- what mult_r and add give.
 use Prim.Native.Nat.{_*_, _%_, _^_, _≤_}
 use mathlib.Core.Path.{_≡_, sym, ap, _∙_}
+use native.Mathlib.Omega.{arith}
 use lib.IntN.{ℤ, pos, _+ℤ_, _*ℤ_}
 use mir.Syntax.{w16, w32}
 use mir.Val.{SFits, ofZ, toZ}
 use borrow.Author.Needs.{needs}
 use Rattle.math_integers.specs.Halves.{P, mem}
-use Rattle.math_integers.specs.Ranges.{zfits, wide, shr-fits, back}
-use Rattle.standard.specs.Arithmetic.{_<<_, _>>_, add, sub, mult-r}
+use Rattle.math_integers.specs.Ranges.{zfits, wide, back}
+use Rattle.standard.specs.Arithmetic.{_<<_, _>>_, shr, add, sub, mult-r}
 use Rattle.law_arithmetic.specs.Clip.{plus-plain, plus-fits}
-use Rattle.law_arithmetic.specs.Shift.{up-bits, keep-fits}
+use Rattle.law_arithmetic.specs.Shift.{up-bits, keep-fits, shr-word}
+use Rattle.rpe_quantise.specs.Counts.{count-below, shr-bits}
 use Rattle.rpe_inverse.specs.Inverse.{top-in, product-plain, total-fits}
 use Rattle.rpe_inverse.proofs.pulse.Statement.{statement}
 use Rattle.rpe_inverse.proofs.pulse.Tie as tie
@@ -48,7 +50,7 @@ sum-in : (c : tie.After-sub) → SFits w16 (mult-r (c .before .args .temp1) (x c
 sum-in c =
     let s = c .before in
     let top : P (x c) ≤ 28672 = rw (x-is c) (top-in (sub (s .args .xmc << 1) (pos 7))) in
-    total-fits (s .args .temp1) (x c) (s .fits .temp1) (x-fits c) (s .pre .0) (s .args .temp3) top (s .pre .1 .1 .0) (s .pre .1 .1 .1)
+    total-fits (s .args .temp1) (x c) (s .fits .temp1) (x-fits c) (s .pre .0) (s .args .temp3) top (s .pre .1 .1)
 
 -- so it does not saturate
 sum-is : (c : tie.After-sub) → let s = c .before in
@@ -59,9 +61,16 @@ sum-is c =
     rw (temp-is c, back f, back (wide {v = w32} f tt))
     (back (wide {v = w32} (sum-in c) tt) ∙ sym (plus-plain (mult-r (s .args .temp1) (x c)) (s .args .temp3) (sum-in c)))
 
--- and what the shift leaves of it is a word
-shifted : (c : tie.After-sub) → SFits w16 (add (mult-r (c .before .args .temp1) (x c)) (c .before .args .temp3) >> c .before .args .temp2)
-shifted c = shr-fits (2 ^ c .before .args .temp2) (plus-fits w16 (mult-r (c .before .args .temp1) (x c)) (c .before .args .temp3))
+-- the shift of it, as the code has it, is the standard's, which is a word
+shifted : (c : tie.After-sub) → let s = c .before in
+    let z = add (mult-r (s .args .temp1) (x c)) (s .args .temp3) in
+    (z >> ofZ w32 (mem w16 (s .args .temp2)) ≡ shr w16 z (s .args .temp2)) × SFits w16 (shr w16 z (s .args .temp2))
+shifted c =
+    let s = c .before in
+    let z = add (mult-r (s .args .temp1) (x c)) (s .args .temp3) in (
+      rw (back (s .fits .temp2)) (shr-bits w32 w16 z (s .args .temp2) (s .pre .1 .0)),
+      shr-word w16 z (s .args .temp2) (plus-fits w16 (mult-r (s .args .temp1) (x c)) (s .args .temp3)),
+    )
 
 pub pulse-spec : {M : Type 1} → statement M
 pulse-spec =
@@ -74,7 +83,7 @@ pulse-spec =
     (λ c. let f = x-fits c in search zfits)
     (λ c. search zfits)
     (λ c. let f = c .before .fits .temp3 in rw (temp-is c, back f, back (wide {v = w32} f tt)) (wide (sum-in c) tt))
-    (λ c. search needs)
-    (λ c. search needs)
-    (λ c. rw (sum-is c, back (wide {v = w32} (shifted c) tt)) (shifted c))
-    (λ c. rw (sum-is c, back (wide {v = w32} (shifted c) tt), back (shifted c), x-is c)))
+    (λ c. search zfits)
+    (λ c. let s = c .before in rw (back (s .fits .temp2)) (omega (arith, count-below w32 (s .args .temp2) (s .pre .1 .0))))
+    (λ c. let (e, f) = shifted c in rw (sum-is c, e, back (wide {v = w32} f tt)) f)
+    (λ c. let (e, f) = shifted c in rw (sum-is c, e, back (wide {v = w32} f tt), back f, x-is c)))

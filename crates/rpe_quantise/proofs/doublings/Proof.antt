@@ -1,42 +1,36 @@
--- One return for each range of the mantissa: k doublings are enough there, and one less is not, so k is the least number.
-use Prim.Native.Nat.{_<_, _≤_}
+-- One return for each range of the mantissa: it lies between two powers of 2, and they decide the number of doublings.
+use Prim.Native.Nat.{ℕ, _-_, _^_, _<_}
+use mathlib.Core.Path.{_≡_, ap}
+use mathlib.Core.Bool.{true, false}
 use native.Mathlib.Omega.{arith}
-use Rattle.rpe_quantise.specs.Doubling.{doubled-by}
+use lib.Dec.{T, leb, leb→le}
+use lib.IntN.{ℤ, pos}
+use lib.Pow.{pow-pos}
+use lib.Signed.{ltZ}
+use mir.Syntax.{w16}
+use mir.Val.{SFits}
+use Rattle.math_integers.specs.Halves.{P, zar, know, mem}
+use Rattle.math_lists.specs.First.{first}
+use Rattle.rpe_quantise.specs.Doubling.{doubled, doubled-by}
 use Rattle.rpe_quantise.proofs.doublings.Statement.{statement}
 use Rattle.rpe_quantise.proofs.doublings.Tie as tie
 
-returns : tie.Need-returns
-returns c =
-    let m = c .before .args .mant in
-    let h : m < 1 = c .if1 .taken in
-    doubled-by m 4 (omega arith) (λ g. omega arith) (λ g. absurd (omega arith))
-
-returns-2 : tie.Need-returns-2
-returns-2 c =
-    let m = c .before .before .args .mant in
-    let h : m < 2 = c .if2 .taken in
-    let l : 1 ≤ m = c .before .if1 .left in
-    doubled-by m 3 (omega arith) (λ g. omega arith) (λ g. omega arith)
-
-returns-3 : tie.Need-returns-3
-returns-3 c =
-    let m = c .before .before .before .args .mant in
-    let h : m < 4 = c .if3 .taken in
-    let l : 2 ≤ m = c .before .if2 .left in
-    doubled-by m 2 (omega arith) (λ g. omega arith) (λ g. omega arith)
-
-returns-4 : tie.Need-returns-4
-returns-4 c =
-    let m = c .before .before .before .before .args .mant in
-    let h : m < 8 = c .if4 .taken in
-    let l : 4 ≤ m = c .before .if3 .left in
-    doubled-by m 1 (omega arith) (λ g. omega arith) (λ g. omega arith)
-
-returns-5 : tie.Need-returns-5
-returns-5 c =
-    let m = c .before .before .before .before .args .mant in
-    let l : 8 ≤ m = c .if4 .left in
-    doubled-by m 0 (omega arith) (λ g. absurd (omega arith)) (λ g. omega arith)
+-- the return of k, by the test that passed and the test that failed before it
+between : {x : ℤ} (k : ℕ) → T (leb k 4) → SFits w16 x
+    → (0 < k → ltZ (mem w16 x) (pos (2 ^ (4 - k))) ≡ true) → (k < 4 → ltZ (mem w16 x) (pos (2 ^ (3 - k))) ≡ false)
+    → pos k ≡ pos (first (doubled (P x)) 4 0)
+between {x} k l f below above =
+    ap pos
+    (doubled-by (P x) k (leb→le k 4 l)
+    (λ g. omega (zar, know f, below g, pow-pos (4 - k)))
+    (λ g. omega (zar, know f, above g, pow-pos (3 - k))))
 
 pub doublings-spec : {M : Type 1} → statement M
-doublings-spec = tie.close (tie.spec returns returns-2 returns-3 returns-4 returns-5)
+doublings-spec =
+    tie.close
+    (tie.spec
+    (λ c. between 4 tt (c .before .fits .mant) (λ g. c .if1 .taken) (λ g. absurd (omega arith)))
+    (λ c. between 3 tt (c .before .before .fits .mant) (λ g. c .if2 .taken) (λ g. c .before .if1 .left))
+    (λ c. between 2 tt (c .before .before .before .fits .mant) (λ g. c .if3 .taken) (λ g. c .before .if2 .left))
+    (λ c. between 1 tt (c .before .before .before .before .fits .mant) (λ g. c .if4 .taken) (λ g. c .before .if3 .left))
+    (λ c. between 0 tt (c .before .before .before .before .fits .mant) (λ g. absurd (omega arith)) (λ g. c .if4 .left)))

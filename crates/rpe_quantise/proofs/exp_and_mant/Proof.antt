@@ -1,99 +1,143 @@
 -- A code is from 0 to 63, so the exponent is at most 6 and the mantissa at most 15. No step leaves its range, and the result is the
 -- definition's.
-use Prim.Native.Nat.{suc, _+_, _*_, _-_, _/_, _%_, _^_, _<_, _≤_}
-use mathlib.Core.Path.{_≡_, sym, _∙_}
+use Prim.Native.Nat.{ℕ, suc, _+_, _*_, _-_, _/_, _%_, _^_, _<_, _≤_}
+use mathlib.Core.Path.{_≡_, refl, sym, ap, _∙_}
 use mathlib.Core.Logic.{⊎-elim}
 use native.Mathlib.Omega.{arith}
-use native.Mathlib.Nat.{mul-le-mul, mod-eq-of-lt}
 use native.Mathlib.Numerals.{add-one}
-use lib.IntN.{pos, natAbs}
+use native.Mathlib.Nat.{mul-le-mul, mod-eq-of-lt, div-le-self}
+use lib.Dec.{T, leb, leb→le}
+use lib.IntN.{ℤ, pos, _+ℤ_, _-ℤ_, natAbs}
+use lib.Signed.{shrZ}
 use lib.Pow.{pow-mono}
 use mir.Syntax.{w16}
+use mir.Val.{SFits, toZ, ofZ}
+use mir.Facts.{toZ-pos}
 use borrow.Author.Needs.{needs}
-use borrow.Author.Tests.{le-leb, lt-leb}
-use Rattle.math_integers.specs.Halves.{N, zar, know, mem}
+use borrow.Author.Tests.{leb-false}
+use Rattle.math_integers.specs.Halves.{apart, zar, know, mem}
 use Rattle.math_integers.specs.Sums.{minus-is}
-use Rattle.math_integers.specs.Ranges.{back}
-use Rattle.math_lists.specs.First.{first-le}
+use Rattle.math_integers.specs.Ranges.{back, res}
+use Rattle.math_lists.specs.First.{first, first-le}
 use Rattle.law_fields.specs.Fit.{fit-is}
 use Rattle.law_fields.specs.Amplitudes.{exp-of}
-use Rattle.rpe_quantise.specs.Doubling.{doubled-above, amplitude-is}
+use Rattle.rpe_quantise.specs.Doubling.{doubled, doubled-above, exp-parts, amplitude-is}
 use Rattle.rpe_quantise.proofs.exp_and_mant.Statement.{statement}
 use Rattle.rpe_quantise.proofs.exp_and_mant.Tie as tie
 
--- the code, from 0 to 63
-code : (c : tie.Start) → (natAbs (mem w16 (c .args .xmaxc)) < 64) × (N (c .args .xmaxc) ≡ 0)
-code c = omega (arith, know (c .fits .xmaxc), fit-is 6 (c .args .xmaxc) (c .pre))
+-- the difference of two numbers, of which the second is not the larger
+less : (a b : ℕ) → b ≤ a → pos a -ℤ pos b ≡ pos (a - b)
+less a b h = omega (zar, minus-is (pos a) (pos b), apart (pos a -ℤ pos b))
+
+-- a small difference is a word
+less-fits : {y : ℤ} {a : ℕ} → y ≡ pos a → a ≤ 256 → (b : ℕ) → T (leb b 256) → SFits w16 (y -ℤ pos b)
+less-fits {y} {a} e h b l = rw e (omega (zar, minus-is (pos a) (pos b), leb→le b 256 l))
+
+-- the code is a number from 0 to 63
+abbrev n : tie.Start → ℕ
+n s = natAbs (s .args .xmaxc)
+
+code : (s : tie.Start) → (mem w16 (s .args .xmaxc) ≡ pos (n s)) × (n s < 64)
+code s =
+    let f = fit-is 6 (s .args .xmaxc) (s .pre) in
+    (omega (zar, know (s .fits .xmaxc)), omega (arith, know (s .fits .xmaxc)))
+
+-- a part of it, as the code has it
+part : (s : tie.Start) (m : ℕ) → mem w16 (shrZ (mem w16 (s .args .xmaxc)) m) ≡ pos (n s / m)
+part s m = rw (code s .0) (toZ-pos w16 (omega (arith, code s, div-le-self (n s) m)))
 
 -- the exponent before the mantissa is doubled
-exp-is : (c : tie.Joined1) → let n = natAbs (mem w16 (c .before .args .xmaxc)) in c .if1 .exp ≡ exp-of n
+exp-is : (c : tie.Joined1) → c .if1 .exp ≡ exp-of (n (c .before))
 exp-is c =
-    let n = natAbs (mem w16 (c .before .args .xmaxc)) in
-    ⊎-elim (λ w. rw (le-leb n 15 (w .0 .taken)) (w .1)) (λ w. rw (lt-leb n 15 (w .0 .left)) (w .1)) (c .if1 .came)
-
--- it leaves a mantissa from 0 to 15
-parts : (c : tie.Joined1) → let n = natAbs (mem w16 (c .before .args .xmaxc)) in
-    (c .if1 .exp ≤ 6) × (8 * c .if1 .exp ≤ n) × (n - 8 * c .if1 .exp ≤ 15)
-parts c =
-    let n = natAbs (mem w16 (c .before .args .xmaxc)) in
-    let b = code (c .before) in
+    let s = c .before in
+    let (x, l) = code s in
     ⊎-elim
-    (λ w. let t : n ≤ 15 = w .0 .taken in let e : c .if1 .exp ≡ 0 = w .1 in omega arith)
-    (λ w. let t : 15 < n = w .0 .left in let e : c .if1 .exp ≡ n / 8 - 1 = w .1 in omega arith)
+    (λ w. rw (rw x at (w .0 .taken)) (w .1))
+    (λ w.
+    let g = rw x at (w .0 .left) in
+    let m = leb-false (n s) 15 g in
+    rw g (w .1 ∙ rw (part s 8, less (n s / 8) 1 (omega arith)) refl))
     (c .if1 .came)
 
--- no more than four doublings
-few : (c : tie.After-doublings) → c .doublings .result ≤ 4
-few c = rw (c .doublings .ensures) (first-le _ 4 0)
+-- e is that exponent, and m the mantissa that it leaves of the code
+module _ (c : tie.Joined1) where
+  abbrev e : ℕ
+  e = exp-of (n (c .before))
 
--- the code's shift gives 2 to the power of that number, and the product is from 9 to 256
-product : (c : tie.After-doublings) → let m = natAbs (mem w16 (c .before .before .before .args .xmaxc)) - 8 * c .before .before .if1 .exp in
-    let n = c .doublings .result in ((1 * 2 ^ n) % 18446744073709551616 ≡ 2 ^ n) × (9 ≤ (m + 1) * 2 ^ n) × ((m + 1) * 2 ^ n ≤ 256)
-product c =
-    let m = natAbs (mem w16 (c .before .before .before .args .xmaxc)) - 8 * c .before .before .if1 .exp in
-    let n = c .doublings .result in
-    let b = parts (c .before .before) in
-    let l = pow-mono {i = n} {j = 4} (few c) in
-    let k : m + 1 ≤ 16 = omega arith in
-    let above : 9 ≤ suc m * 2 ^ n = rw (c .doublings .ensures) (doubled-above m) in
-    let one : 1 * 2 ^ n ≡ 2 ^ n = omega arith in
-    (rw one (mod-eq-of-lt (omega arith)), omega arith, mul-le-mul k l)
+  abbrev m : ℕ
+  m = n (c .before) - 8 * e
 
-cast-t10 : tie.Need-cast-t10
-cast-t10 c = omega (zar, parts (c .before .before))
+  parts : (e ≤ 6) × (8 * e ≤ n (c .before)) × (m ≤ 15)
+  parts = exp-parts (n (c .before)) (code (c .before) .1)
 
-cast-t11 : tie.Need-cast-t11
-cast-t11 c = omega (zar, few c)
+  exp-word : toZ w16 (c .if1 .exp) ≡ pos e
+  exp-word = rw (exp-is c) (toZ-pos w16 (omega (arith, parts)))
 
-sub-t12 : tie.Need-sub-t12
-sub-t12 c =
-    let e = c .before .before .if1 .exp in
-    let n = c .doublings .result in
-    rw (back (cast-t10 c), back (cast-t11 c)) (omega (zar, parts (c .before .before), few c, minus-is (pos e) (pos n)))
+  -- as the code has it
+  abbrev rest : ℤ
+  rest = mem w16 (c .before .args .xmaxc) -ℤ toZ w16 ((c .if1 .exp * 8) % 65536)
+
+  rest-is : rest ≡ pos m
+  rest-is =
+      let b = parts in
+      let small : e * 8 < 32768 = omega arith in
+      let s : n (c .before) - e * 8 ≡ m = omega arith in
+      rw (code (c .before) .0, exp-is c, mod-eq-of-lt {n = e * 8} {m = 65536} (omega arith), toZ-pos w16 small)
+      (less (n (c .before)) (e * 8) (omega arith) ∙ ap pos s)
+
+  mant-is : mem w16 rest ≡ pos m
+  mant-is = rw rest-is (toZ-pos w16 (omega (arith, parts)))
+
+  -- its doublings; the mantissa and 1, shifted left by them, is from 9 to 256
+  abbrev k : ℕ
+  k = first (doubled m) 4 0
+
+  few : k ≤ 4
+  few = first-le (doubled m) 4 0
+
+  up-most : suc m * 2 ^ k ≤ 256
+  up-most = let l : suc m ≤ 16 = omega (arith, parts) in mul-le-mul l (pow-mono {i = k} {j = 4} few)
+
+  up-is : (r : ℤ) → r ≡ pos k → toZ w16 ((ofZ w16 (mem w16 rest +ℤ pos 1) * 2 ^ ofZ w16 r) % 65536) ≡ pos (suc m * 2 ^ k)
+  up-is r h =
+      let l = up-most in
+      rw (mant-is, h, add-one, mod-eq-of-lt {n = suc m * 2 ^ k} {m = 65536} (omega arith)) (toZ-pos w16 (omega arith))
+
+-- the number that was returned
+count : (c : tie.After-doublings) → c .doublings .result ≡ pos (k (c .before .before))
+count c = rw (mant-is (c .before .before)) at (c .doublings .ensures)
+
+sub-exp : tie.Need-sub-exp
+sub-exp c =
+    let s = c .before in
+    search (needs, less-fits (part s 8) (omega (arith, code s)))
+
+sub-mant : tie.Need-sub-mant
+sub-mant c = rw (rest-is (c .before)) (omega (zar, parts (c .before)))
+
+sub-t8 : tie.Need-sub-t8
+sub-t8 c =
+    let j = c .before .before in
+    rw (exp-word j, res (c .doublings), count c) (omega (zar, parts j, few j, minus-is (pos (e j)) (pos (k j))))
+
+add-t9 : tie.Need-add-t9
+add-t9 c = let j = c .before .before in rw (mant-is j) (omega (zar, parts j))
+
+shl-t10 : tie.Need-shl-t10
+shl-t10 c = rw (count c) (omega (arith, few (c .before .before)))
+
+sub-t11 : tie.Need-sub-t11
+sub-t11 c =
+    let j = c .before .before in
+    search (needs, less-fits (up-is j (c .doublings .result) (count c)) (up-most j))
 
 returns : tie.Need-returns
 returns c =
     let j = c .before .before in
-    let x = back (j .before .fits .xmaxc) in
-    let exp = rw x at (exp-is j) in
-    let count = rw x at (c .doublings .ensures) in
-    let (e, m) = amplitude-is (j .before .args .xmaxc) (j .if1 .exp) (c .doublings .result) exp count in
-    (back (sub-t12 c) ∙ rw (back (cast-t10 c), back (cast-t11 c)) (sym e), rw (x, product c .0, add-one) (sym m))
+    let (exp, mant) = amplitude-is (j .before .args .xmaxc) (e j) (k j) refl refl in (
+      back (sub-t8 c) ∙ rw (exp-word j, res (c .doublings), count c) (sym exp),
+      back (sub-t11 c) ∙ rw (up-is j (c .doublings .result) (count c)) (less _ _ (doubled-above (m j)) ∙ ap pos (sym mant)),
+    )
 
 pub exp-and-mant-spec : {M : Type 1} → statement M
-exp-and-mant-spec =
-    tie.close
-    (tie.spec
-    (λ c. let (l, n) = code c in (omega (zar, know (c .fits .xmaxc)), record { fits = omega arith }))
-    (λ c. search needs)
-    (λ c. let b = parts (c .before) in record { fits = omega arith })
-    (λ c. parts (c .before) .1)
-    (λ c κs. search needs)
-    cast-t10
-    cast-t11
-    sub-t12
-    (λ c. let b = parts (c .before .before) in record { fits = omega arith })
-    (λ c. let h = few c in omega arith)
-    (λ c. let (e, _, l) = product c in rw e (record { fits = omega arith }))
-    (λ c. let (e, l, _) = product c in rw e l)
-    returns)
+exp-and-mant-spec = tie.close (tie.spec sub-exp sub-mant (λ c κs. search needs) sub-t8 add-t9 shl-t10 sub-t11 returns)

@@ -6,25 +6,25 @@ use lib.IntN.{ℤ, pos, _+ℤ_, _*ℤ_}
 use lib.Signed.{shrZ}
 use mir.Syntax.{w16, w32}
 use mir.Val.{SFits, ofZ, toZ}
-use borrow.Author.Needs.{needs}
 use Rattle.math_integers.specs.Halves.{zar, mem}
 use Rattle.math_integers.specs.Sums.{add-is}
 use Rattle.math_integers.specs.Ranges.{zfits, back}
-use Rattle.standard.specs.Arithmetic.{_<<_}
-use Rattle.law_arithmetic.specs.Shift.{up-bits, keep-fits}
+use Rattle.standard.specs.Arithmetic.{shl}
+use Rattle.law_arithmetic.specs.Shift.{shl-word}
+use Rattle.rpe_quantise.specs.Counts.{count-below, shl-bits}
 use Rattle.rpe_quantise.specs.Pulse.{small, at-once}
 use Rattle.rpe_quantise.proofs.pulse_code.Statement.{statement}
 use Rattle.rpe_quantise.proofs.pulse_code.Tie as tie
 
 -- the pulse after its shift, as the code has it
 abbrev y : tie.Start → ℤ
-y c = toZ w16 ((ofZ w16 (c .args .xm) * 2 ^ c .args .temp1) % 65536)
+y c = toZ w16 ((ofZ w16 (c .args .xm) * 2 ^ ofZ w16 (c .args .temp1)) % 65536)
 
-y-is : (c : tie.Start) → y c ≡ c .args .xm << c .args .temp1
-y-is c = up-bits w16 (c .args .xm) (c .args .temp1) (c .fits .xm)
+y-is : (c : tie.Start) → y c ≡ shl w16 (c .args .xm) (c .args .temp1)
+y-is c = shl-bits w16 w16 (c .args .xm) (c .args .temp1) (c .pre .0) (c .fits .xm)
 
 y-fits : (c : tie.Start) → SFits w16 (y c)
-y-fits c = rw (y-is c) (keep-fits w16 _)
+y-fits c = rw (y-is c) (shl-word w16 (c .args .xm) (c .args .temp1) (c .fits .xm))
 
 -- a product of two words, shifted right (that is, divided by m), as the code has it
 module _ {x b : ℤ} (f : SFits w16 x) (g : SFits w16 b) (m : ℕ) (h : T (leb 1048576 m)) where
@@ -45,8 +45,8 @@ module _ {x b : ℤ} (f : SFits w16 x) (g : SFits w16 b) (m : ℕ) (h : T (leb 1
     sum-fits : T (leb k 8) → SFits w16 (mem w16 product +ℤ pos k)
     sum-fits l = rw sum (omega (zar, small x b f g m (leb→le 1048576 m h), add-is (shrZ (x *ℤ b) m) (pos k), leb→le k 8 l))
 
-cast-result-4 : tie.Need-cast-result-4
-cast-result-4 c = product-fits (y-fits c) (c .fits .temp2) _ tt
+cast-result-3 : tie.Need-cast-result-3
+cast-result-3 c = product-fits (y-fits c) (c .fits .temp2) _ tt
 
 add-result : tie.Need-add-result
 add-result c = sum-fits (y-fits c) (c .fits .temp2) _ tt _ tt
@@ -61,11 +61,10 @@ pub pulse-code-spec : {M : Type 1} → statement M
 pulse-code-spec =
     tie.close
     (tie.spec
-    (λ c. search needs)
-    (λ c. search needs)
+    (λ c. count-below w16 (c .args .temp1) (c .pre .0))
     (λ c. let f = y-fits c in search zfits)
     (λ c. search zfits)
     (λ c. let f = y-fits c in search zfits)
-    cast-result-4
+    cast-result-3
     add-result
     returns)

@@ -3,88 +3,64 @@ use Prim.Native.Nat.{ℕ, _-_, _≤_}
 use mathlib.Core.Path.{_≡_, refl, sym, ap, _∙_}
 use mathlib.Core.List.{map}
 use native.Mathlib.Omega.{arith}
-use lib.Dec.{T, leb, leb→le}
-use lib.IntN.{pos, _-ℤ_, natAbs}
+use lib.IntN.{ℤ, pos, natAbs}
 use lib.ListN.{length, getD, length-map}
-use lib.Signed.{nonNeg}
 use mir.Syntax.{w16}
 use mir.Val.{SFits, toZ}
 use borrow.Author.Needs.{needs, sfits-of}
-use Rattle.math_integers.specs.Halves.{P, N, zar, mem, apart}
-use Rattle.math_integers.specs.Sums.{minus-is}
+use Rattle.math_integers.specs.Halves.{know, mem}
 use Rattle.math_integers.specs.Ranges.{back, res}
 use Rattle.math_lists.specs.Fill.{filled, fill-next, fill-end}
 use Rattle.math_lists.specs.Tab.{map-at}
-use Rattle.standard.specs.Arithmetic.{sub}
 use Rattle.standard.specs.Tables.{_at_, NRFAC}
-use Rattle.standard.specs.Rpe.{amplitude}
+use Rattle.standard.specs.Rpe.{amplitude, xMc}
 use Rattle.op_tables.specs.Facts.{NRFAC-above}
-use Rattle.rpe_quantise.specs.Doubling.{exp-range, shift-in}
-use Rattle.rpe_quantise.specs.Pulse.{code, xMc-is}
+use Rattle.rpe_quantise.specs.Doubling.{gap-fits, gap-is, gap-count}
+use Rattle.rpe_quantise.specs.Pulse.{code}
 use Rattle.rpe_quantise.proofs.pulse_codes.Statement.{statement}
 use Rattle.rpe_quantise.proofs.pulse_codes.Tie as tie
 
 abbrev Inv-loop : tie.InvT-loop
-Inv-loop xmaxc xm temp1 temp2 xmc₀ i₀ xmc i = (i ≤ 13) × (xmc ≡ filled i (map (code temp1 (toZ w16 temp2)) xm) xmc₀)
+Inv-loop xmaxc xm temp1 mant temp2 xmc₀ i₀ xmc i = (i ≤ 13) × (xmc ≡ filled i (map (code (toZ w16 temp1) (toZ w16 temp2)) xm) xmc₀)
 
 abbrev μ-loop : tie.MeasureT-loop
-μ-loop xmaxc xm temp1 temp2 xmc₀ i₀ xmc i = 13 - i
+μ-loop xmaxc xm temp1 mant temp2 xmc₀ i₀ xmc i = 13 - i
 
--- the exponent that was returned, from −4 to 6
-exp-is : (c : tie.After-exp-and-mant Inv-loop μ-loop) → let e = amplitude (c .before .args .code) .exp in
-    (mem w16 (c .exp-and-mant .result .exp) ≡ e) × (P e ≤ 6) × (N e ≤ 4)
-exp-is c =
-    let x = c .before .args .code in
-    let b = exp-range x (c .before .pre) in
-    let e : c .exp-and-mant .result .exp ≡ amplitude x .exp = rw (back (c .before .fits .code)) at (c .exp-and-mant .ensures .0) in
-    (rw e (back (omega (zar, apart (amplitude x .exp)))), b .0, b .1)
+-- the exponent and the mantissa that were returned
+module _ (c : tie.After-exp-and-mant Inv-loop μ-loop) where
+  exp-is : c .exp-and-mant .result .exp ≡ amplitude (c .before .args .code) .exp
+  exp-is = rw (back (c .before .fits .code)) at (c .exp-and-mant .ensures .0)
 
--- k less that exponent
-module _ (c : tie.After-exp-and-mant Inv-loop μ-loop) (k : ℕ) (l : T (leb k 8)) where
-  gap-fits : SFits w16 (pos k -ℤ mem w16 (c .exp-and-mant .result .exp))
-  gap-fits =
-      let (e, p, n) = exp-is c in
-      rw e (omega (zar, minus-is (pos k) (amplitude (c .before .args .code) .exp), leb→le k 8 l))
+  mant-is : mem w16 (c .exp-and-mant .result .mant) ≡ pos (amplitude (c .before .args .code) .mant)
+  mant-is =
+      let f : SFits w16 (c .exp-and-mant .result .mant) = search needs in
+      back f ∙ rw (back (c .before .fits .code)) at (c .exp-and-mant .ensures .1)
 
-  gap-above : T (leb 6 k) → T (nonNeg (mem w16 (pos k -ℤ mem w16 (c .exp-and-mant .result .exp))))
-  gap-above m =
-      let (e, p, n) = exp-is c in
-      let x = amplitude (c .before .args .code) .exp in
-      rw (back gap-fits, e) (omega (zar, minus-is (pos k) x, apart (pos k -ℤ x), leb→le 6 k m))
+-- the call that returned them
+abbrev call : tie.After-struct-told2 Inv-loop μ-loop → tie.After-exp-and-mant Inv-loop μ-loop
+call c = c .before .before .before .before
 
--- the shift as the code has it
-abbrev temp1 : tie.After-exp-and-mant Inv-loop μ-loop → ℕ
-temp1 c = natAbs (mem w16 (pos 6 -ℤ mem w16 (c .exp-and-mant .result .exp)))
-
--- it is the standard's, from 0 to 10
-temp1-is : (c : tie.After-exp-and-mant Inv-loop μ-loop)
-    → (temp1 c ≤ 10) × (sub (pos 6) (amplitude (c .before .args .code) .exp) ≡ pos (temp1 c))
-temp1-is c =
-    let (e, p, n) = exp-is c in
-    rw (back (gap-fits c 6 tt), e) (shift-in (amplitude (c .before .args .code) .exp) p n)
-
--- so is the inverse mantissa
-temp2-is : (c : tie.After-mantissa-nrfac Inv-loop μ-loop) → let s = c .before .before .before .before in
-    mem w16 (c .mantissa-nrfac .result) ≡ NRFAC at amplitude (s .args .code) .mant
+-- the inverse mantissa
+temp2-is : (c : tie.After-mantissa-nrfac Inv-loop μ-loop)
+    → mem w16 (c .mantissa-nrfac .result) ≡ NRFAC at amplitude (call (c .before) .before .args .code) .mant
 temp2-is c =
-    let k = c .before .before .before in
-    let e = rw (back (k .before .fits .code)) at (k .exp-and-mant .ensures .1) in
-    res (c .mantissa-nrfac) ∙ (c .mantissa-nrfac .ensures ∙ ap (λ (m : ℕ). NRFAC at m) e)
+    res (c .mantissa-nrfac) ∙ (c .mantissa-nrfac .ensures ∙ ap (λ (z : ℤ). NRFAC at natAbs z) (mant-is (call (c .before))))
 
-cast-temp1 : tie.Need-cast-temp1 Inv-loop μ-loop
-cast-temp1 c =
-    let k = c .before .before in
-    (gap-above k _ tt tt, record { fits = omega (arith, temp1-is k) })
+cast-mant : tie.Need-cast-mant Inv-loop μ-loop
+cast-mant c =
+    let f : SFits w16 (call c .exp-and-mant .result .mant) = search needs in
+    (rw (mant-is (call c)) tt, record { fits = omega (arith, know f) })
 
 pulse-code-requires : tie.Need-pulse-code-requires Inv-loop μ-loop
 pulse-code-requires c κs =
     let m = c .before .before .before in
-    (temp1-is (m .before .before .before) .0, rw (temp2-is m) (NRFAC-above _))
+    let k = call (m .before) in
+    (gap-count (k .before .args .code) _ (k .before .pre) (exp-is k) _ tt tt, rw (temp2-is m) (NRFAC-above _))
 
 loop-again : tie.Need-loop-again Inv-loop μ-loop
 loop-again c =
     let b = c .before .before .before in
-    let s = b .before .before .before .before .before in
+    let s = call (b .before .before) .before in
     let i = b .loop .i in
     let f : SFits w16 (getD (s .args .t2) i (pos 0)) = sfits-of (c .before .pulse-code-arg .given) in
     let n : length (s .args .t2) ≡ 13 = search needs in
@@ -95,14 +71,15 @@ loop-again c =
     )
 
 returns : tie.Need-returns Inv-loop μ-loop
+unfolding xMc
 returns c =
     let b = c .before in
     let m = b .before in
-    let k = m .before .before .before in
+    let k = call (m .before) in
     let s = k .before in
     let n : length (s .args .t2) ≡ 13 = search needs in
     fill-end _ _ (b .loop .i) (b .loop .inv .1) (rw (length-map, n) (omega arith)) (omega arith)
-    ∙ rw (temp2-is m) (sym (xMc-is (amplitude (s .args .code)) (s .args .t2) (temp1 k) (temp1-is k .1)))
+    ∙ rw (temp2-is m, gap-is (s .args .code) (k .exp-and-mant .result .exp) (s .pre) (exp-is k) 6 tt) refl
 
 pub pulse-codes-spec : {M : Type 1} → statement M
 pulse-codes-spec =
@@ -111,8 +88,8 @@ pulse-codes-spec =
     Inv-loop
     μ-loop
     (λ c κs. rw (back (c .fits .code)) (c .pre))
-    (λ c. gap-fits (c .before .before) _ tt)
-    cast-temp1
+    (λ c. let k = c .before .before in gap-fits (k .before .args .code) _ (k .before .pre) (exp-is k) _ tt)
+    cast-mant
     (λ c κs. search needs)
     (λ c. (search needs, refl))
     (λ c. search needs)
