@@ -9,13 +9,20 @@ use lib.Dec.{leb}
 use lib.Pow.{pow-pos}
 use lib.IntN.{ℤ, pos, _-ℤ_, natAbs}
 use lib.ListN.{length, getD, List·getD-eq-default}
-use lib.Signed.{leZ}
+use lib.Signed.{leZ, mag}
+use mir.Syntax.{w16}
+use borrow.Author.Needs.{sfits-of}
 use borrow.Author.Tests.{leb-true, le-leb}
-use Rattle.math_integers.specs.Halves.{P, N, zar, eq-is, apart, le-or-lt}
+use Rattle.math_integers.specs.Halves.{P, N, zar, eq-is, apart, le-or-lt, mem}
 use Rattle.math_integers.specs.Sums.{minus-is}
+use Rattle.math_integers.specs.Ranges.{back}
 use Rattle.math_lists.specs.Every.{every, every-at}
 use Rattle.math_lists.specs.Tab.{map-at, zip-at}
 use Rattle.standard.specs.Tables.{_at_, MIC, MAC, FAC, NRFAC, LARc-widths}
+
+-- an entry that was read is what its local gives back
+pub entry : {z : ℤ} → mag z < 32768 → mem w16 z ≡ z
+entry h = back (sfits-of h)
 
 -- beyond its end a table gives the default d, which is 0 in the tables
 pub past-end : {A : Type 0} {d : A} (t : List A) {i : ℕ} → length t ≤ i → d ≡ getD t i d
