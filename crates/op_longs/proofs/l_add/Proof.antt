@@ -19,20 +19,6 @@ low-limit c =
 high-limit : tie.Need-sub-if3
 high-limit c = omega (zar, know (c .before .fits .b), minus-is (pos 2147483647) (mem w32 (c .before .args .b)))
 
-above-low : tie.Need-add-result
-above-low c =
-    let s = c .before .before in
-    let b = mem w32 (s .args .b) in
-    let limit = know (low-limit (c .before)) in
-    omega (zar, know (s .fits .a), know (s .fits .b), limit, minus-is (negsuc 2147483647) b, add-is (mem w32 (s .args .a)) b)
-
-below-high : tie.Need-add-result-2
-below-high c =
-    let s = c .before .before in
-    let b = mem w32 (s .args .b) in
-    let limit = know (high-limit (c .before)) in
-    omega (zar, know (s .fits .a), know (s .fits .b), limit, minus-is (pos 2147483647) b, add-is (mem w32 (s .args .a)) b)
-
 returns : tie.Need-returns
 returns c =
     let s = c .before .before in
@@ -57,6 +43,20 @@ plain s f =
     let a = back (s .fits .a) in
     let b = back (s .fits .b) in
     back f ∙ rw (a, b) (sym (plus-plain (s .args .a) (s .args .b) (rw (a, b) at f)))
+
+above-low : tie.Need-add-result
+above-low c =
+    let s = c .before .before in
+    let b = mem w32 (s .args .b) in
+    let limit = know (low-limit (c .before)) in
+    omega (zar, know (s .fits .a), know (s .fits .b), limit, minus-is (negsuc 2147483647) b, add-is (mem w32 (s .args .a)) b)
+
+below-high : tie.Need-add-result-2
+below-high c =
+    let s = c .before .before in
+    let b = mem w32 (s .args .b) in
+    let limit = know (high-limit (c .before)) in
+    omega (zar, know (s .fits .a), know (s .fits .b), limit, minus-is (pos 2147483647) b, add-is (mem w32 (s .args .a)) b)
 
 pub l-add-spec : {M : Type 1} → statement M
 l-add-spec =

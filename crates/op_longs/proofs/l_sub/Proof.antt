@@ -21,22 +21,6 @@ low-limit c =
     let b = mem w32 (c .before .args .b) in
     omega (zar, know (c .before .fits .b), add-is (negsuc 2147483647) b, apart (negsuc 2147483647 +ℤ b))
 
-below-high : tie.Need-sub-result
-below-high c =
-    let s = c .before .before in
-    let a = mem w32 (s .args .a) in
-    let b = mem w32 (s .args .b) in
-    let limit = know (high-limit (c .before)) in
-    omega (zar, know (s .fits .a), know (s .fits .b), limit, add-is (pos 2147483647) b, minus-is a b, apart (a -ℤ b))
-
-above-low : tie.Need-sub-result-2
-above-low c =
-    let s = c .before .before in
-    let a = mem w32 (s .args .a) in
-    let b = mem w32 (s .args .b) in
-    let limit = know (low-limit (c .before)) in
-    omega (zar, know (s .fits .a), know (s .fits .b), limit, add-is (negsuc 2147483647) b, minus-is a b, apart (a -ℤ b))
-
 returns : tie.Need-returns
 returns c =
     let s = c .before .before in
@@ -61,6 +45,22 @@ plain s f =
     let a = back (s .fits .a) in
     let b = back (s .fits .b) in
     back f ∙ rw (a, b) (sym (minus-plain (s .args .a) (s .args .b) (rw (a, b) at f)))
+
+below-high : tie.Need-sub-result
+below-high c =
+    let s = c .before .before in
+    let a = mem w32 (s .args .a) in
+    let b = mem w32 (s .args .b) in
+    let limit = know (high-limit (c .before)) in
+    omega (zar, know (s .fits .a), know (s .fits .b), limit, add-is (pos 2147483647) b, minus-is a b, apart (a -ℤ b))
+
+above-low : tie.Need-sub-result-2
+above-low c =
+    let s = c .before .before in
+    let a = mem w32 (s .args .a) in
+    let b = mem w32 (s .args .b) in
+    let limit = know (low-limit (c .before)) in
+    omega (zar, know (s .fits .a), know (s .fits .b), limit, add-is (negsuc 2147483647) b, minus-is a b, apart (a -ℤ b))
 
 pub l-sub-spec : {M : Type 1} → statement M
 l-sub-spec =

@@ -16,11 +16,8 @@ there-and-back c =
     let a = c .args .a in
     ap (λ (x : ℤ). mem w32 (x >> 16)) (up-bits w32 a 16 (c .fits .a)) ∙ (ap (mem w32) (low-word a) ∙ back (wide (keep-fits w16 a) tt))
 
-cast-result : tie.Need-cast-result
-cast-result c = subst⁻¹ (SFits w16) (there-and-back c) (keep-fits w16 (c .args .a))
-
 returns : tie.Need-returns
 returns c = ap (mem w16) (there-and-back c) ∙ back (keep-fits w16 (c .args .a))
 
 pub low-word-spec : {M : Type 1} → statement M
-low-word-spec = tie.close (tie.spec cast-result returns)
+low-word-spec = tie.close (tie.spec (λ c. subst⁻¹ (SFits w16) (there-and-back c) (keep-fits w16 (c .args .a))) returns)

@@ -11,18 +11,12 @@ use Rattle.law_arithmetic.specs.Norm.{Normal, normal}
 use Rattle.op_longs.proofs.norm.Statement.{statement}
 use Rattle.op_longs.proofs.norm.Tie as tie
 
-cast-result : tie.Need-cast-result
-cast-result c = omega (zar, know (c .fits .a))
-
 normed : (c : tie.Start) → Normal (c .args .a)
 normed c = normal (c .args .a) (c .pre) (c .fits .a)
 
 -- what the machine counts
 counted : (c : tie.Start) → leadingZeros 32 (natAbs (mem w32 (c .args .a))) ≡ suc (normed c .shifts)
 counted c = rw (back (c .fits .a)) (normed c .counted)
-
-sub-result : tie.Need-sub-result
-sub-result c = omega (zar, counted c)
 
 cast-result-2 : tie.Need-cast-result-2
 cast-result-2 c = omega (zar, counted c, normed c .most)
@@ -33,4 +27,4 @@ returns c =
     back (cast-result-2 c) ∙ (ap pos (omega arith) ∙ sym (normed c .is))
 
 pub norm-spec : {M : Type 1} → statement M
-norm-spec = tie.close (tie.spec cast-result sub-result cast-result-2 returns)
+norm-spec = tie.close (tie.spec (λ c. omega (zar, know (c .fits .a))) (λ c. omega (zar, counted c)) cast-result-2 returns)

@@ -1,5 +1,5 @@
 -- A long word shifted right by 16 is a word, so the cast loses nothing and the `low` of the definition changes nothing.
-use mathlib.Core.Path.{_≡_, sym, _∙_}
+use mathlib.Core.Path.{_≡_, sym, ap, ap₂, _∙_}
 use native.Mathlib.Omega.{arith}
 use lib.IntN.{ℤ}
 use mir.Syntax.{w16, w32}
@@ -19,24 +19,20 @@ high : (x : ℤ) → SFits w32 x → SFits w16 (x >> 16)
 high x f = omega (zar, know f, shr-is x 65536 (omega arith))
 
 -- what the code shifts right is what the standard does
-shifted : (c : tie.After-l-shl) → let s = c .before in let x = shl w32 (s .args .x) (s .args .n) in
-    (SFits w16 (x >> 16)) × (mem w32 (mem w32 (c .l-shl .result) >> 16) ≡ x >> 16)
-shifted c =
+result-is : (c : tie.After-l-shl) → let s = c .before in mem w32 (c .l-shl .result) ≡ shl w32 (s .args .x) (s .args .n)
+result-is c =
     let s = c .before in
-    let x = shl w32 (s .args .x) (s .args .n) in
-    let f = high x (shl-word w32 (s .args .x) (s .args .n) (s .fits .x)) in
-    let e : mem w32 (c .l-shl .result) ≡ x = res (c .l-shl) ∙ (rw (back (s .fits .x), back (s .fits .n)) at (c .l-shl .ensures)) in
-    (f, rw e (back (wide f tt)))
+    res (c .l-shl) ∙ (c .l-shl .ensures ∙ ap₂ (shl w32) (back (s .fits .x)) (back (s .fits .n)))
 
-l-shl-requires : tie.Need-l-shl-requires
-l-shl-requires c κs = search needs
-
-cast-result : tie.Need-cast-result
-cast-result c = rw (shifted c .1) (shifted c .0)
+shifted : (c : tie.After-l-shl) → let s = c .before in SFits w16 (shl w32 (s .args .x) (s .args .n) >> 16)
+shifted c = let s = c .before in high _ (shl-word w32 (s .args .x) (s .args .n) (s .fits .x))
 
 returns : tie.Need-returns
 unfolding normalized
-returns c = rw (shifted c .1) (back (shifted c .0) ∙ sym (keep-plain (shifted c .0)))
+returns c =
+    let f = shifted c in
+    ap (λ (z : ℤ). mem w16 (mem w32 (z >> 16))) (result-is c) ∙ (ap (mem w16) (back (wide f tt)) ∙ (back f ∙ sym (keep-plain f)))
 
 pub normalized-spec : {M : Type 1} → statement M
-normalized-spec = tie.close (tie.spec l-shl-requires cast-result returns)
+normalized-spec =
+    tie.close (tie.spec (λ c κs. search needs) (λ c. rw (result-is c, back (wide {v = w32} (shifted c) tt)) (shifted c)) returns)

@@ -13,14 +13,6 @@ cast-result c = search zfits
 sub-result : tie.Need-sub-result
 sub-result c = search zfits
 
-cast-result-2 : tie.Need-cast-result-2
-cast-result-2 c =
-    let n = mem w32 (mem w16 (c .before .args .n)) in
-    omega (zar, know (c .before .fits .n), know (cast-result c), know (sub-result c), minus-is (pos 0) n)
-
-cast-result-3 : tie.Need-cast-result-3
-cast-result-3 c = omega (zar, know (c .before .fits .n))
-
 returns : tie.Need-returns
 returns c =
     let n = mem w32 (mem w16 (c .before .args .n)) in
@@ -28,6 +20,14 @@ returns c =
 
 returns-2 : tie.Need-returns-2
 returns-2 c = omega (zar, know (c .before .fits .n))
+
+cast-result-2 : tie.Need-cast-result-2
+cast-result-2 c =
+    let n = mem w32 (mem w16 (c .before .args .n)) in
+    omega (zar, know (c .before .fits .n), know (cast-result c), know (sub-result c), minus-is (pos 0) n)
+
+cast-result-3 : tie.Need-cast-result-3
+cast-result-3 c = omega (zar, know (c .before .fits .n))
 
 pub size-spec : {M : Type 1} → statement M
 size-spec = tie.close (tie.spec cast-result sub-result cast-result-2 cast-result-3 returns returns-2)
