@@ -2,20 +2,21 @@
 -- definition's.
 use Prim.Native.Nat.{ℕ, suc, _+_, _*_, _-_, _/_, _%_, _^_, _<_, _≤_}
 use mathlib.Core.Path.{_≡_, refl, sym, ap, _∙_}
+use mathlib.Core.Bool.{true}
 use mathlib.Core.Logic.{⊎-elim}
 use native.Mathlib.Omega.{arith}
 use native.Mathlib.Numerals.{add-one}
 use native.Mathlib.Nat.{mul-le-mul, mod-eq-of-lt, div-le-self}
 use lib.Dec.{T, leb, leb→le}
 use lib.IntN.{ℤ, pos, _+ℤ_, _-ℤ_, natAbs}
-use lib.Signed.{shrZ}
+use lib.Signed.{leZ, shrZ}
 use lib.Pow.{pow-mono}
 use mir.Syntax.{w16}
 use mir.Val.{SFits, toZ, ofZ}
 use mir.Facts.{toZ-pos}
 use borrow.Author.Needs.{needs}
 use borrow.Author.Tests.{leb-false}
-use Rattle.math_integers.specs.Halves.{apart, zar, know, mem}
+use Rattle.math_integers.specs.Halves.{P, apart, zar, know, mem}
 use Rattle.math_integers.specs.Sums.{minus-is}
 use Rattle.math_integers.specs.Ranges.{back, res}
 use Rattle.math_lists.specs.First.{first, first-le}
@@ -42,7 +43,10 @@ code s =
     let f = fit-is 6 (s .args .xmaxc) (s .pre) in
     (omega (zar, know (s .fits .xmaxc)), omega (arith, know (s .fits .xmaxc)))
 
--- a part of it, as the code has it
+-- a test of it, and a part of it, as the code has them
+test : (s : tie.Start) → leZ (mem w16 (s .args .xmaxc)) (pos 15) ≡ true → leb (n s) 15 ≡ true
+test s h = rw (code s .0) at h
+
 part : (s : tie.Start) (m : ℕ) → mem w16 (shrZ (mem w16 (s .args .xmaxc)) m) ≡ pos (n s / m)
 part s m = rw (code s .0) (toZ-pos w16 (omega (arith, code s, div-le-self (n s) m)))
 
@@ -50,11 +54,10 @@ part s m = rw (code s .0) (toZ-pos w16 (omega (arith, code s, div-le-self (n s) 
 exp-is : (c : tie.Joined1) → c .if1 .exp ≡ exp-of (n (c .before))
 exp-is c =
     let s = c .before in
-    let (x, l) = code s in
     ⊎-elim
-    (λ w. rw (rw x at (w .0 .taken)) (w .1))
+    (λ w. rw (test s (w .0 .taken)) (w .1))
     (λ w.
-    let g = rw x at (w .0 .left) in
+    let g = rw (code s .0) at (w .0 .left) in
     let m = leb-false (n s) 15 g in
     rw g (w .1 ∙ rw (part s 8, less (n s / 8) 1 (omega arith)) refl))
     (c .if1 .came)
@@ -105,26 +108,12 @@ module _ (c : tie.Joined1) where
 
 -- the number that was returned
 count : (c : tie.After-doublings) → c .doublings .result ≡ pos (k (c .before .before))
-count c = rw (mant-is (c .before .before)) at (c .doublings .ensures)
-
-sub-exp : tie.Need-sub-exp
-sub-exp c =
-    let s = c .before in
-    search (needs, less-fits (part s 8) (omega (arith, code s)))
-
-sub-mant : tie.Need-sub-mant
-sub-mant c = rw (rest-is (c .before)) (omega (zar, parts (c .before)))
+count c = c .doublings .ensures ∙ ap (λ (z : ℤ). pos (first (doubled (P z)) 4 0)) (mant-is (c .before .before))
 
 sub-t8 : tie.Need-sub-t8
 sub-t8 c =
     let j = c .before .before in
     rw (exp-word j, res (c .doublings), count c) (omega (zar, parts j, few j, minus-is (pos (e j)) (pos (k j))))
-
-add-t9 : tie.Need-add-t9
-add-t9 c = let j = c .before .before in rw (mant-is j) (omega (zar, parts j))
-
-shl-t10 : tie.Need-shl-t10
-shl-t10 c = rw (count c) (omega (arith, few (c .before .before)))
 
 sub-t11 : tie.Need-sub-t11
 sub-t11 c =
@@ -140,4 +129,14 @@ returns c =
     )
 
 pub exp-and-mant-spec : {M : Type 1} → statement M
-exp-and-mant-spec = tie.close (tie.spec sub-exp sub-mant (λ c κs. search needs) sub-t8 add-t9 shl-t10 sub-t11 returns)
+exp-and-mant-spec =
+    tie.close
+    (tie.spec
+    (λ c. search (needs, less-fits (part (c .before) 8) (omega (arith, code (c .before)))))
+    (λ c. rw (rest-is (c .before)) (omega (zar, parts (c .before))))
+    (λ c κs. search needs)
+    sub-t8
+    (λ c. let j = c .before .before in rw (mant-is j) (omega (zar, parts j)))
+    (λ c. rw (count c) (omega (arith, few (c .before .before))))
+    sub-t11
+    returns)

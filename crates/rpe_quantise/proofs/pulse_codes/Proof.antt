@@ -1,6 +1,6 @@
 -- The shift and the inverse mantissa are the standard's, because the exponent is from −4 to 6. Iteration i stores the code of pulse i.
 use Prim.Native.Nat.{ℕ, _-_, _≤_}
-use mathlib.Core.Path.{_≡_, refl, sym, ap, _∙_}
+use mathlib.Core.Path.{_≡_, refl, sym, ap, ap₂, _∙_}
 use mathlib.Core.List.{map}
 use native.Mathlib.Omega.{arith}
 use lib.IntN.{ℤ, pos, natAbs}
@@ -79,7 +79,7 @@ returns c =
     let s = k .before in
     let n : length (s .args .t2) ≡ 13 = search needs in
     fill-end _ _ (b .loop .i) (b .loop .inv .1) (rw (length-map, n) (omega arith)) (omega arith)
-    ∙ rw (temp2-is m, gap-is (s .args .code) (k .exp-and-mant .result .exp) (s .pre) (exp-is k) 6 tt) refl
+    ∙ ap₂ (λ (t u : ℤ). map (code t u) (s .args .t2)) (gap-is (s .args .code) _ (s .pre) (exp-is k) 6 tt) (temp2-is m)
 
 pub pulse-codes-spec : {M : Type 1} → statement M
 pulse-codes-spec =
