@@ -1,4 +1,4 @@
--- The laws of 4.2.15: exponents, doublings, shift counts, pulse codes, left shifts; and that the promise of exp_and_mant decides its result.
+-- The laws of 4.2.15: exponents, doublings, shifts, pulse codes; and that the promise of exp_and_mant decides its result.
 pub mod Exponent
 pub mod Counts
 pub mod Doubling
