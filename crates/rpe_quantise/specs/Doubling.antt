@@ -1,4 +1,5 @@
--- 4.2.15: how often a mantissa is doubled until it is above 7, and the exponent and the mantissa of a code.
+-- 4.2.15: how often a mantissa is doubled until it is above 7; the exponent and the mantissa of a code; and 6 less the exponent, by which
+-- 4.2.15 and 4.2.16 shift.
 use Prim.Native.Nat.{ℕ, suc, _+_, _*_, _-_, _^_, _<_, _≤_}
 use mathlib.Core.Path.{_≡_, refl, sym, _∙_}
 use mathlib.Core.Bool.{Bool, true}
@@ -76,7 +77,7 @@ exp-range code h =
     let e = exp-parts c (omega arith) in
     omega (arith, first-le (doubled m) 4 0, minus-is (pos (exp-of c)) (pos (first (doubled m) 4 0)))
 
--- k less the exponent e of a code, as the code has it
+-- k less the exponent that was returned, as the code has it: for k = 6 temp1 of 4.2.15 and temp2 of 4.2.16
 module _ (code e : ℤ) (h : fit 6 code ≡ true) (s : e ≡ amplitude code .exp) (k : ℕ) (l : T (leb k 8)) where
   held : mem w16 e ≡ amplitude code .exp
   held = rw s (back (omega (zar, apart (amplitude code .exp), exp-range code h)))
@@ -88,12 +89,12 @@ module _ (code e : ℤ) (h : fit 6 code ≡ true) (s : e ≡ amplitude code .exp
   pub gap-is : mem w16 (pos k -ℤ mem w16 e) ≡ sub (pos k) (amplitude code .exp)
   gap-is = back gap-fits ∙ rw held (sym (minus-plain (pos k) (amplitude code .exp) (rw held at gap-fits)))
 
-  -- for k from 6 on it is a count from 0 to k + 4
+  -- for k from 6 on it is from 0 to k + 4
   pub gap-in : T (leb 6 k) → let t = sub (pos k) (amplitude code .exp) in (N t ≡ 0) × (P t ≤ k + 4)
   gap-in m =
       let x = amplitude code .exp in
       omega (arith, exp-range code h, minus-is (pos k) x, apart (pos k -ℤ x), minus-clip w16 (pos k) x, leb→le 6 k m, leb→le k 8 l)
 
-  -- so it is a count
+  -- so the machine's shift takes it
   pub gap-count : T (leb 6 k) → count (mem w16 (pos k -ℤ mem w16 e))
   gap-count m = rw gap-is (omega (zar, gap-in m, leb→le k 8 l), omega (zar, gap-in m, leb→le k 8 l))
