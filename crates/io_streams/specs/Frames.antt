@@ -1,8 +1,8 @@
 -- For a loop that codes the frames of one buffer, all of one size, into another buffer, one behind the other.
-use Prim.Native.Nat.{ℕ, zero, suc, _+_, _-_, _*_, _≤_}
+use Prim.Native.Nat.{ℕ, zero, suc, _+_, _-_, _*_, _≤_, _<_}
 use mathlib.Core.Path.{_≡_, refl, _∙_}
 use mathlib.Core.List.{List, [], _∷_, _++_, append-nil, flatten}
-use native.Mathlib.Nat.{mul-zero, mul-suc, add-comm}
+use native.Mathlib.Nat.{mul-zero, mul-suc, add-comm, mul-le-mul-left}
 use native.Mathlib.Numerals.{add-one}
 use native.Mathlib.Omega.{arith}
 use lib.ListN.{length, take, drop, replicate, drop-of-length-le}
@@ -10,7 +10,7 @@ use lib.Seq.{drop-drop}
 use Rattle.math_lists.specs.Scan.{run, run-append}
 use Rattle.math_lists.specs.Cut.{cut, flatten-last}
 use Rattle.math_lists.specs.Parts.{put}
-use Rattle.list_text.specs.Written.{Puts, puts-none, puts-then}
+use Rattle.list_text.specs.Written.{Puts, puts-none, puts-length, puts-then}
 
 -- parts of one size, and one more behind them
 cut-more : (k n : ℕ) (xs : List ℕ) → cut (replicate (suc n) k) xs ≡ cut (replicate n k) xs ++ (take k (drop (k * n) xs) ∷ [])
@@ -66,3 +66,29 @@ module _ {S : Type 0} (step : S → List ℕ → S × List ℕ) (size : ℕ) whe
   through-part m {n} p h {y} l e w =
       let j : m * n + m - m * n ≡ length y = omega arith in
       through-next p h e (record { place = rw (add-one, mul-suc, ← w) (omega arith); text = rw (j, ← w) })
+
+  -- ---- a loop over n frames, each of which gives m bytes
+
+  -- before frame i the first i are coded
+  pub record Coding (m : ℕ) (s : S) (n : ℕ) (xs lent : List ℕ) (t : S) (i : ℕ) (left : List ℕ) : Type 0 where
+    pub within : i ≤ n
+    pub room : length left ≡ length lent
+    pub coded : Through s i xs lent t (m * i) left
+
+  pub coding-start : (m : ℕ) (s : S) (n : ℕ) (xs lent : List ℕ) → Coding m s n xs lent s 0 lent
+  coding-start m s n xs lent = record { within = omega arith; room = refl; coded = rw mul-zero (through-none s xs lent) }
+
+  pub coding-next : (m : ℕ) {s t : S} {n i : ℕ} {xs lent left : List ℕ} → Coding m s n xs lent t i left
+      → i < n → m * n ≤ length lent → {u : S} {y : List ℕ} → length y ≡ m
+      → let f = take (size * i + size - size * i) (drop (size * i) xs) in u ≡ step t f .0 → y ≡ step t f .1
+      → Coding m s n xs lent u (i + 1) (put (m * i) (m * i + m - m * i) left y)
+  coding-next m {n} {i} p h r l e w =
+      let k : m * i + m ≤ m * n = rw mul-suc at (mul-le-mul-left m h) in
+      let c = through-part m (p .coded) (omega arith) l e w in
+      record { within = omega arith; room = puts-length (c .bytes) (rw (add-one, mul-suc) (omega arith)); coded = c }
+
+  pub coding-end : (m : ℕ) {s t : S} {n i : ℕ} {xs lent left : List ℕ} → Coding m s n xs lent t i left → n ≤ i
+      → Through s n xs lent t (m * n) left
+  coding-end m {n} {i} p h =
+      let e : i ≡ n = omega arith in
+      rw e at (p .coded)

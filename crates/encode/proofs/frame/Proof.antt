@@ -1,5 +1,6 @@
 -- The samples are the words of the bytes, and the bytes left are those of the codewords that encode answers.
 use borrow.Author.Needs.{needs}
+use Rattle.io_streams.specs.Needs.{by-8}
 use Rattle.encode.specs.Frame.{encoded}
 use Rattle.encode.proofs.frame.Statement.{statement}
 use Rattle.encode.proofs.frame.Tie as tie
@@ -14,15 +15,4 @@ returns c =
     (rw (samples .from-bytes .ensures) at (e .state), rw (out .to-bytes .ensures, e .codewords, samples .from-bytes .ensures))
 
 pub frame-spec : {M : Type 1} → statement M
-frame-spec =
-    tie.close
-    (tie.spec
-    (λ c. search needs)
-    (λ c κs. search needs)
-    (λ c. search needs)
-    (λ c. search needs)
-    (λ c κs. search needs)
-    (λ c. search needs)
-    (λ c κs. search needs)
-    (λ c. search needs)
-    returns)
+frame-spec = tie.close (by-8 tie.spec (search needs) returns)
