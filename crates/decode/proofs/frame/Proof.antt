@@ -1,5 +1,6 @@
 -- The codewords are the words of the bytes, and the bytes left are those of the samples that decode answers.
 use borrow.Author.Needs.{needs}
+use Rattle.io_streams.specs.Needs.{by-8}
 use Rattle.decode.specs.Frame.{decoded}
 use Rattle.decode.proofs.frame.Statement.{statement}
 use Rattle.decode.proofs.frame.Tie as tie
@@ -14,15 +15,4 @@ returns c =
     (rw (codewords .from-bytes .ensures) at (d .state), rw (out .to-bytes .ensures, d .samples, codewords .from-bytes .ensures))
 
 pub frame-spec : {M : Type 1} → statement M
-frame-spec =
-    tie.close
-    (tie.spec
-    (λ c. search needs)
-    (λ c κs. search needs)
-    (λ c. search needs)
-    (λ c. search needs)
-    (λ c κs. search needs)
-    (λ c. search needs)
-    (λ c κs. search needs)
-    (λ c. search needs)
-    returns)
+frame-spec = tie.close (by-8 tie.spec (search needs) returns)

@@ -3,6 +3,7 @@ use Prim.Native.Nat.{_<_}
 use mathlib.Core.Path.{_≡_}
 use lib.ListN.{length}
 use borrow.Author.Needs.{needs}
+use Rattle.io_streams.specs.Needs.{by-8}
 use Rattle.decode.proofs.main.Statement.{statement}
 use Rattle.decode.proofs.main.Tie as tie
 
@@ -14,18 +15,4 @@ abbrev μ-loop : tie.MeasureT-loop
 μ-loop room₀ out₀ state₀ there₀ turns₀ room out state there turns = turns
 
 pub main-spec : {M : Type 1} → statement M
-main-spec =
-    tie.close
-    (tie.spec
-    Inv-loop
-    μ-loop
-    (λ c κs. search needs)
-    (λ c. search needs)
-    (λ c. search needs)
-    (λ c. search needs)
-    (λ c κs. search needs)
-    (λ c. search needs)
-    (λ c. search needs)
-    (λ c. search needs)
-    (λ c. search needs)
-    (λ c. search needs))
+main-spec = tie.close (by-8 (tie.spec Inv-loop μ-loop) (search needs) (search needs) (search needs))

@@ -4,6 +4,7 @@ use native.Mathlib.Omega.{arith}
 use lib.ListN.{length}
 use borrow.Author.Needs.{needs}
 use Rattle.io_streams.specs.Frames.{puts-all}
+use Rattle.io_streams.specs.Needs.{by-8}
 use Rattle.decode_alaw.specs.Frame.{decoded}
 use Rattle.decode_alaw.proofs.frame.Statement.{statement}
 use Rattle.decode_alaw.proofs.frame.Tie as tie
@@ -24,15 +25,4 @@ returns c =
     (rw (codewords .from-bytes .ensures) at (d .state), rw (full, d .octets, codewords .from-bytes .ensures))
 
 pub frame-spec : {M : Type 1} → statement M
-frame-spec =
-    tie.close
-    (tie.spec
-    (λ c. search needs)
-    (λ c κs. search needs)
-    (λ c. search needs)
-    (λ c. search needs)
-    (λ c κs. search needs)
-    (λ c. search needs)
-    (λ c κs. search needs)
-    (λ c. search needs)
-    returns)
+frame-spec = tie.close (by-8 tie.spec (search needs) returns)

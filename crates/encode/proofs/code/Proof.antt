@@ -1,4 +1,4 @@
--- Turn i takes frame i and puts what it gives behind the frames before it.
+-- Turn i takes frame i and puts what it gives behind the frames before it: the laws of `Coding`.
 use Prim.Native.Nat.{_-_}
 use native.Mathlib.Omega.{arith}
 use borrow.Author.Needs.{needs}

@@ -1,59 +1,30 @@
--- Turn i takes frame i and puts what it gives behind the frames before it. The invariant is `Through`: the state and the bytes
--- are those of the first i frames.
-use Prim.Native.Nat.{_-_, _*_, _≤_}
-use mathlib.Core.Path.{_≡_}
+-- Turn i takes frame i and puts what it gives behind the frames before it: the laws of `Coding`.
+use Prim.Native.Nat.{_-_}
 use native.Mathlib.Omega.{arith}
-use lib.ListN.{length}
 use borrow.Author.Needs.{needs}
 use Rattle.encoder.specs.Promise.{coder}
-use Rattle.io_streams.specs.Frames.{Through, through-none, through-part}
+use Rattle.io_streams.specs.Needs.{by-12}
+use Rattle.io_streams.specs.Frames.{Coding, coding-start, coding-next, coding-end}
 use Rattle.encode_alaw.specs.Frame.{encoded}
 use Rattle.encode_alaw.proofs.code.Statement.{statement}
 use Rattle.encode_alaw.proofs.code.Tie as tie
 
 abbrev Inv-loop : tie.InvT-loop
-Inv-loop frames octets out₀ state₀ i₀ out state i =
-    (i ≤ frames) × (length out ≡ length out₀) × Through encoded 160 (coder state₀) i octets out₀ (coder state) (152 * i) out
+Inv-loop frames octets out₀ state₀ i₀ out state i = Coding encoded 160 152 (coder state₀) frames octets out₀ (coder state) i out
 
 -- the frames that are left
 abbrev μ-loop : tie.MeasureT-loop
 μ-loop frames octets out₀ state₀ i₀ out state i = frames - i
 
-loop-holds : tie.Need-loop-holds Inv-loop μ-loop
-loop-holds c = (search needs, search needs, through-none encoded 160 _ _ _)
-
 loop-again : tie.Need-loop-again Inv-loop μ-loop
 loop-again c =
     let t = c .before .before in
-    let turn = t .before .before .before .before in
-    let frame = t .frame .ensures in
-    (search needs, search needs, through-part encoded 160 152 (turn .loop .inv .2) (omega arith) (search needs) (frame .0) (frame .1))
+    let (state, bytes) = t .frame .ensures in
+    coding-next encoded 160 152 (t .before .before .before .before .loop .inv) (omega arith) (omega arith) (search needs) state bytes
 
 returns : tie.Need-returns Inv-loop μ-loop
-returns c =
-    let all : c .before .loop .i ≡ c .before .before .before .before .args .frames = omega arith in
-    rw all at (c .before .loop .inv .2)
+returns c = coding-end encoded 160 152 (c .before .loop .inv) (omega arith)
 
 pub code-spec : {M : Type 1} → statement M
 code-spec =
-    tie.close
-    (tie.spec
-    Inv-loop
-    μ-loop
-    loop-holds
-    (λ c. search needs)
-    (λ c. search needs)
-    (λ c. search needs)
-    (λ c. search needs)
-    (λ c. search needs)
-    (λ c. search needs)
-    (λ c. search needs)
-    (λ c. search needs)
-    (λ c. search needs)
-    (λ c. search needs)
-    (λ c κs. search needs)
-    (λ c. search needs)
-    (λ c. search needs)
-    loop-again
-    (λ c. search needs)
-    returns)
+    tie.close (by-12 (tie.spec Inv-loop μ-loop (search coding-start)) (search needs) (search needs) loop-again (search needs) returns)

@@ -1,5 +1,6 @@
 -- The bytes left are those of the codewords that encode_alaw answers.
 use borrow.Author.Needs.{needs}
+use Rattle.io_streams.specs.Needs.{by-4}
 use Rattle.encode_alaw.specs.Frame.{encoded}
 use Rattle.encode_alaw.proofs.frame.Statement.{statement}
 use Rattle.encode_alaw.proofs.frame.Tie as tie
@@ -12,12 +13,4 @@ returns c =
     (e .state, rw (out .to-bytes .ensures, e .codewords))
 
 pub frame-spec : {M : Type 1} → statement M
-frame-spec =
-    tie.close
-    (tie.spec
-    (λ c. search needs)
-    (λ c κs. search needs)
-    (λ c. search needs)
-    (λ c κs. search needs)
-    (λ c. search needs)
-    returns)
+frame-spec = tie.close (by-4 tie.spec (search needs) (search needs) returns)
