@@ -43,19 +43,13 @@ fn code(m: Decoder, frames: usize, bytes: &[u8], out: &mut [u8]) -> Decoder
     state
 }
 
-// Codes and writes the frames that have come. Bytes that make no frame yet are kept for the next turn.
+// Codes and writes the frames that have come. Bytes that make no frame yet are kept for the next turn. There may be
+// more where a whole frame came and was written.
 fn turn(m: Decoder, there: usize, room: &mut [u8], out: &mut [u8]) -> After
     requires { ⌜ (there < 152) × (length (now room) ≡ 9728) × (length (now out) ≡ 10240) ⌝ }
     ensures { λ r. ⌜ r .there < 152 ⌝ }
 {
     let got = io_streams::gather(there, 152, room);
-    if !io_streams::whole(got, 152) {
-        return After {
-            state: m,
-            there: 0,
-            more: false,
-        };
-    }
     let frames = got.count / 152;
     let next = code(m, frames, room, out);
     let rest = io_streams::keep(152 * frames, got.count, room);
@@ -63,7 +57,7 @@ fn turn(m: Decoder, there: usize, room: &mut [u8], out: &mut [u8]) -> After
     After {
         state: next,
         there: rest,
-        more: io_streams::written(io::write_all(1, &out[0..end])),
+        more: io_streams::written(io::write_all(1, &out[0..end])) && io_streams::whole(got, 152),
     }
 }
 

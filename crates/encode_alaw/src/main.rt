@@ -41,19 +41,13 @@ fn code(e: Encoder, frames: usize, octets: &[u8], out: &mut [u8]) -> Encoder
     state
 }
 
-// Codes and writes the frames that have come. Bytes that make no frame yet are kept for the next turn.
+// Codes and writes the frames that have come. Bytes that make no frame yet are kept for the next turn. There may be
+// more where a whole frame came and was written.
 fn turn(e: Encoder, there: usize, room: &mut [u8], out: &mut [u8]) -> After
     requires { ⌜ (there < 160) × (length (now room) ≡ 10240) × (length (now out) ≡ 9728) ⌝ }
     ensures { λ r. ⌜ r .there < 160 ⌝ }
 {
     let got = io_streams::gather(there, 160, room);
-    if !io_streams::whole(got, 160) {
-        return After {
-            state: e,
-            there: 0,
-            more: false,
-        };
-    }
     let frames = got.count / 160;
     let next = code(e, frames, room, out);
     let rest = io_streams::keep(160 * frames, got.count, room);
@@ -61,7 +55,7 @@ fn turn(e: Encoder, there: usize, room: &mut [u8], out: &mut [u8]) -> After
     After {
         state: next,
         there: rest,
-        more: io_streams::written(io::write_all(1, &out[0..end])),
+        more: io_streams::written(io::write_all(1, &out[0..end])) && io_streams::whole(got, 160),
     }
 }
 

@@ -2,29 +2,16 @@
 use mathlib.Core.Path.{_≡_}
 use lib.ListN.{length}
 use borrow.Author.Needs.{needs}
+use Rattle.io_streams.specs.Needs.{by-8}
 use Rattle.expand.proofs.main.Statement.{statement}
 use Rattle.expand.proofs.main.Tie as tie
 
 abbrev Inv-loop : tie.InvT-loop
-Inv-loop octets₀ samples₀ out₀ frames₀ octets samples out frames = (length octets ≡ 10240) × (length samples ≡ 10240) × (length out ≡ 20480)
+Inv-loop octets₀ samples₀ out₀ turns₀ octets samples out turns = (length octets ≡ 10240) × (length samples ≡ 10240) × (length out ≡ 20480)
 
 -- the turns that are left
 abbrev μ-loop : tie.MeasureT-loop
-μ-loop octets₀ samples₀ out₀ frames₀ octets samples out frames = frames
+μ-loop octets₀ samples₀ out₀ turns₀ octets samples out turns = turns
 
 pub main-spec : {M : Type 1} → statement M
-main-spec =
-    tie.close
-    (tie.spec
-    Inv-loop
-    μ-loop
-    (λ c. search needs)
-    (λ c. search needs)
-    (λ c. search needs)
-    (λ c. search needs)
-    (λ c κs. search needs)
-    (λ c. search needs)
-    (λ c. search needs)
-    (λ c. search needs)
-    (λ c. search needs)
-    (λ c. search needs))
+main-spec = tie.close (by-8 (tie.spec Inv-loop μ-loop) (search needs) (search needs) (search needs))
