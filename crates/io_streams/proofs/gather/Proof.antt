@@ -8,6 +8,7 @@ use lib.ListN.{length, take}
 use lib.Seq.{length-take-le, take-append-le, take-take}
 use borrow.Author.Needs.{needs}
 use Rattle.math_lists.specs.Parts.{put}
+use Rattle.io_streams.specs.Needs.{by-4}
 use Rattle.io_streams.proofs.gather.Statement.{statement}
 use Rattle.io_streams.proofs.gather.Tie as tie
 
@@ -69,20 +70,6 @@ returns-2 c =
     record { room = search needs; more = search needs; stands = held .3; failure = λ f. absurd (false≢true f); enough = held .4 }
 
 pub gather-spec : {M : Type 1} → statement M
-gather-spec =
-    tie.close
-    (tie.spec
-    Inv-loop
-    μ-loop
-    loop-holds
-    (λ c. search needs)
-    (λ c. search needs)
-    (λ c. search needs)
-    (λ c κs. search needs)
-    (λ c. search needs)
-    returns
-    (λ c. search needs)
-    (λ c. search needs)
-    loop-again
-    (λ c. search needs)
-    returns-2)
+gather-spec {M} =
+    let turn = by-4 (tie.spec {M = M} Inv-loop μ-loop loop-holds) (search needs) in
+    tie.close (turn (search needs) returns (search needs) (search needs) loop-again (search needs) returns-2)

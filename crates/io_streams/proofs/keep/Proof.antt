@@ -7,6 +7,7 @@ use lib.ListN.{length, getD, drop, length-set, length-drop}
 use lib.Seq.{getD-drop}
 use borrow.Author.Needs.{needs}
 use Rattle.math_lists.specs.Fill.{filled, fill-next, fill-read}
+use Rattle.io_streams.specs.Needs.{by-4}
 use Rattle.io_streams.proofs.keep.Statement.{statement}
 use Rattle.io_streams.proofs.keep.Tie as tie
 
@@ -38,17 +39,4 @@ returns c =
 
 pub keep-spec : {M : Type 1} → statement M
 keep-spec =
-    tie.close
-    (tie.spec
-    Inv-loop
-    μ-loop
-    (λ c. search needs)
-    (λ c. search needs)
-    (λ c. search needs)
-    (λ c. search needs)
-    (λ c. search needs)
-    (λ c. search needs)
-    (λ c. search needs)
-    loop-again
-    (λ c. search needs)
-    returns)
+    tie.close (by-4 (tie.spec Inv-loop μ-loop (search needs) (search needs)) (search needs) (search needs) loop-again (search needs) returns)

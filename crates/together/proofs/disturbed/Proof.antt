@@ -11,12 +11,4 @@ strayed-requires c κs =
     (sym (k .before .before .fits2 .ensures) ∙ k .before .if2 .taken, rw (res (k .stray-bits)) (k .stray-bits .ensures))
 
 pub disturbed-spec : {M : Type 1} → statement M
-disturbed-spec =
-    tie.close
-    (tie.spec
-    (λ c κs. search needs)
-    (λ c κs. search needs)
-    strayed-requires
-    (λ c. search needs)
-    (λ c. search needs)
-    (λ c. search needs))
+disturbed-spec = tie.close (tie.spec (search needs) (search needs) strayed-requires (search needs) (search needs) (search needs))

@@ -4,6 +4,7 @@ use Prim.Native.Nat.{_+_, _-_, _*_, _≤_}
 use mathlib.Core.Path.{_≡_}
 use lib.ListN.{length}
 use borrow.Author.Needs.{needs}
+use Rattle.io_streams.specs.Needs.{by-12}
 use Rattle.together.proofs.list.Statement.{statement}
 use Rattle.together.proofs.list.Tie as tie
 
@@ -16,20 +17,4 @@ abbrev μ-loop : tie.MeasureT-loop
 μ-loop frames bytes out₀ tally₀ end₀ i₀ out tally end i = frames - i
 
 pub list-spec : {M : Type 1} → statement M
-list-spec =
-    tie.close
-    (tie.spec
-    Inv-loop
-    μ-loop
-    (λ c. search needs)
-    (λ c. search needs)
-    (λ c. search needs)
-    (λ c. search needs)
-    (λ c. search needs)
-    (λ c. search needs)
-    (λ c κs. search needs)
-    (λ c. search needs)
-    (λ c. search needs)
-    (λ c. search needs)
-    (λ c. search needs)
-    (λ c. search needs))
+list-spec = tie.close (by-12 (tie.spec Inv-loop μ-loop) (search needs))

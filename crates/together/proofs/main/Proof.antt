@@ -5,6 +5,7 @@ use native.Mathlib.Omega.{arith}
 use lib.ListN.{length}
 use borrow.Author.Needs.{needs}
 use borrow.Author.Tests.{not-false}
+use Rattle.io_streams.specs.Needs.{by-4}
 use Rattle.together.proofs.main.Statement.{statement}
 use Rattle.together.proofs.main.Tie as tie
 
@@ -23,19 +24,6 @@ loop-less c =
     omega (arith, t .turn .ensures .1 .1 (not-false _ (on .if2 .left)))
 
 pub main-spec : {M : Type 1} → statement M
-main-spec =
-    tie.close
-    (tie.spec
-    Inv-loop
-    μ-loop
-    (λ c κs. search needs)
-    (λ c κs. search needs)
-    (λ c. search needs)
-    (λ c. search needs)
-    (λ c. search needs)
-    (λ c κs. search needs)
-    (λ c. search needs)
-    loop-less
-    (λ c. search needs)
-    (λ c κs. search needs)
-    (λ c. search needs))
+main-spec {M} =
+    let loop = by-4 (tie.spec {M = M} Inv-loop μ-loop) (search needs) in
+    tie.close (loop (search needs) (search needs) (search needs) loop-less (search needs) (search needs) (search needs))

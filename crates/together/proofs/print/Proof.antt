@@ -13,11 +13,4 @@ slice-aggregate-write-all : tie.Need-slice-aggregate-write-all
 slice-aggregate-write-all c = rw length-take (omega (arith, room (c .before), c .before .pre))
 
 pub print-spec : {M : Type 1} → statement M
-print-spec =
-    tie.close
-    (tie.spec
-    (λ c. search needs)
-    slice-aggregate-write-all
-    (λ c κs. search needs)
-    (λ c κs. search needs)
-    (λ c. search needs))
+print-spec = tie.close (tie.spec (search needs) slice-aggregate-write-all (search needs) (search needs) (search needs))
