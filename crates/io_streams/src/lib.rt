@@ -82,7 +82,8 @@ pub fn readable(got: Filled) -> bool
     !got.failed
 }
 
-// Reports on standard error how many bytes there are, where they are too few for a frame.
+// Reports on standard error how many bytes there are, where they are too few for a frame. The toolchain's printers
+// take 64 bits, and none takes fewer: so the count is cast.
 fn say_rest(count: usize, size: usize) {
     if 0 < count {
         if count < size {

@@ -126,24 +126,24 @@ fn value(i: usize, j: usize) -> i16 {
     op_words::sub(op_words::word_of(32 * (i % 256) + j % 32), 4096)
 }
 
-// The absolute value of a number. That of the least number does not fit 32 bits. So 1 is added before the sign is
-// changed, and again after it, on 64 bits.
-fn size(n: i32) -> u64 {
+// The absolute value of a number. That of the least number does not fit an i32. So 1 is added before the sign is
+// changed, and again after it.
+fn size(n: i32) -> u32 {
     if n < 0 {
-        (0 - (n + 1)) as u64 + 1
+        (0 - (n + 1)) as u32 + 1
     } else {
-        n as u64
+        n as u32
     }
 }
 
-// A tab and the number.
+// A tab and the number. The toolchain has no printer of a u32.
 fn print_long(n: i32) -> bool {
     let led = if n < 0 {
         io::write_all(1, b"\t-")
     } else {
         io::write_all(1, b"\t")
     };
-    led && io::print_decimal(1, size(n))
+    led && io::print_decimal(1, size(n) as u64)
 }
 
 fn print_word(n: i16) -> bool {

@@ -1,5 +1,5 @@
--- A negative n is at least -2147483648, so n + 1 and 0 - (n + 1) fit 32 bits, and the last is not negative. The 1 that is then
--- added fits 64 bits.
+-- A negative n is at least -2147483648, so n + 1 and 0 - (n + 1) fit an i32, and the last is not negative. The 1 that is then
+-- added fits a u32.
 use lib.IntN.{pos, _+ℤ_}
 use mir.Syntax.{w32}
 use borrow.Author.Needs.{needs}
