@@ -38,5 +38,6 @@ returns c =
     (refl, rw end at (c .before .loop .inv .2))
 
 pub keep-spec : {M : Type 1} → statement M
-keep-spec =
-    tie.close (by-4 (tie.spec Inv-loop μ-loop (search needs) (search needs)) (search needs) (search needs) loop-again (search needs) returns)
+keep-spec {M} =
+    let turn = by-4 (tie.spec {M = M} Inv-loop μ-loop (search needs) (search needs)) (search needs) in
+    tie.close (turn (search needs) loop-again (search needs) returns)
