@@ -59,7 +59,7 @@ module _ {S : Type 0} (step : S → List ℕ → S × List ℕ) (size : ℕ) whe
       }
 
   -- a turn where each frame gives m bytes, and the part of the buffer for them is passed
-  pub through-part : (m : ℕ) {s t : S} {n : ℕ} {xs lent left : List ℕ} → Through s n xs lent t (m * n) left → m * n ≤ length lent
+  through-part : (m : ℕ) {s t : S} {n : ℕ} {xs lent left : List ℕ} → Through s n xs lent t (m * n) left → m * n ≤ length lent
       → {u : S} {y : List ℕ} → length y ≡ m → let f = take (size * n + size - size * n) (drop (size * n) xs) in
       u ≡ step t f .0 → y ≡ step t f .1
       → Through s (n + 1) xs lent u (m * (n + 1)) (put (m * n) (m * n + m - m * n) left y)
@@ -75,9 +75,11 @@ module _ {S : Type 0} (step : S → List ℕ → S × List ℕ) (size : ℕ) whe
     pub room : length left ≡ length lent
     pub coded : Through s i xs lent t (m * i) left
 
+  -- before the first
   pub coding-start : (m : ℕ) (s : S) (n : ℕ) (xs lent : List ℕ) → Coding m s n xs lent s 0 lent
   coding-start m s n xs lent = record { within = omega arith; room = refl; coded = rw mul-zero (through-none s xs lent) }
 
+  -- a turn: frame i, and its bytes in the part of the buffer that is passed for them
   pub coding-next : (m : ℕ) {s t : S} {n i : ℕ} {xs lent left : List ℕ} → Coding m s n xs lent t i left
       → i < n → m * n ≤ length lent → {u : S} {y : List ℕ} → length y ≡ m
       → let f = take (size * i + size - size * i) (drop (size * i) xs) in u ≡ step t f .0 → y ≡ step t f .1
@@ -87,6 +89,7 @@ module _ {S : Type 0} (step : S → List ℕ → S × List ℕ) (size : ℕ) whe
       let c = through-part m (p .coded) (omega arith) l e w in
       record { within = omega arith; room = puts-length (c .bytes) (rw (add-one, mul-suc) (omega arith)); coded = c }
 
+  -- after the last
   pub coding-end : (m : ℕ) {s t : S} {n i : ℕ} {xs lent left : List ℕ} → Coding m s n xs lent t i left → n ≤ i
       → Through s n xs lent t (m * n) left
   coding-end m {n} {i} p h =
