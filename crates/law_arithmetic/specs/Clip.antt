@@ -52,7 +52,3 @@ module _ {w : Width} (a b : ℤ) where
 pub abs-clip : (a : ℤ) → (P (abs a) ≡ min (natAbs a) 32767) × (N (abs a) ≡ 0)
 unfolding abs
 abs-clip a = omega (arith, clip-is w16 (pos (natAbs a)))
-
-pub abs-fits : (a : ℤ) → SFits w16 (abs a)
-unfolding abs
-abs-fits a = clip-fits w16 (pos (natAbs a))

@@ -1,19 +1,22 @@
 -- div: its value by case, its range, and that the loop of the standard computes it.
 use Prim.Native.Nat.{ℕ, zero, suc, _+_, _*_, _-_, _/_, _^_, _<_, _≤_}
-use mathlib.Core.Path.{_≡_, refl, ap, _∙_}
-use mathlib.Core.Bool.{true, cond}
+use mathlib.Core.Path.{_≡_, refl, ap₂}
+use mathlib.Core.Bool.{true, false, cond}
 use mathlib.Core.Logic.{_⊎_, inl, inr, ⊎-elim}
 use native.Mathlib.Omega.{arith}
-use native.Mathlib.Nat.{pow-succ', add-mul-div-left, mul-one, div-eq-of-lt, zero-div, div-zero as n/0, le-div-iff-mul-le, div-lt-iff-lt-mul, le-antisymm}
-use lib.Dec.{leb}
-use lib.IntN.{ℤ, pos, negsuc, natAbs}
+use native.Mathlib.Nat.{pow-succ', add-mul-div-left, mul-le-mul, div-eq-of-lt, zero-div, div-zero as n/0, le-div-iff-mul-le, div-lt-iff-lt-mul}
+use lib.IntN.{ℤ, pos, negsuc, _*ℤ_, natAbs}
+use lib.Pow.{pow-mono}
 use lib.Signed.{ltZ, leZ}
-use mir.Syntax.{w16}
+use mir.Syntax.{w16, w32}
 use mir.Val.{SFits}
-use borrow.Author.Tests.{le-leb, lt-leb}
-use Rattle.math_integers.specs.Halves.{P, N, zar, le-or-lt}
-use Rattle.standard.specs.Arithmetic.{div}
-use Rattle.law_arithmetic.specs.Clip.{clip-is}
+use Rattle.math_integers.specs.Halves.{P, N, zar, le-or-lt, know}
+use Rattle.math_integers.specs.Sums.{minus-is}
+use Rattle.math_lists.specs.Steps.{steps}
+use Rattle.math_lists.specs.For.{steps-last}
+use Rattle.standard.specs.Arithmetic.{_<<_, up, div, add, L-sub}
+use Rattle.law_arithmetic.specs.Clip.{clip-is, plus-plain, minus-clip}
+use Rattle.law_arithmetic.specs.Shift.{keep-plain}
 
 -- ---- by case
 
@@ -57,7 +60,7 @@ div-fraction (pos n) (negsuc d) h g = absurd (omega zar)
 div-fraction (negsuc n) d h g = absurd (omega zar)
 
 -- never negative
-pub div-is : (n d : ℤ) → (P (div n d) ≤ 32767) × (N (div n d) ≡ 0)
+div-is : (n d : ℤ) → (P (div n d) ≤ 32767) × (N (div n d) ≡ 0)
 unfolding div
 div-is (pos n) (pos d) = omega (arith, clip-is w16 (pos (n * 32768 / d)))
 div-is (pos n) (negsuc d) = omega arith
@@ -66,57 +69,107 @@ div-is (negsuc n) d = omega arith
 pub div-fits : (n d : ℤ) → SFits w16 (div n d)
 div-fits n d = omega (zar, div-is n d)
 
--- ---- 4.2.5, note: one correct implementation
+-- ---- 4.2.5, note: "one correct implementation", a loop of fifteen iterations
 
--- k more iterations, from L_num and the quotient so far
-unfoldable pub loop : ℕ → ℕ → ℕ → ℕ → ℕ
-loop zero num q d = q
-loop (suc k) num q d = loop k (cond (leb d (2 * num)) (2 * num - d) (2 * num)) (cond (leb d (2 * num)) (2 * q + 1) (2 * q)) d
+-- an iteration, on div and L_num: div <<= 1, L_num <<= 1, and where L_num >= L_denum: L_num = L_sub( L_num, L_denum ), div = add( div, 1 )
+unfoldable pub div-turn : ℤ → ℕ → ℤ × ℤ → ℤ × ℤ
+div-turn L-denum k (div, L-num) =
+    let div′ = div << 1 in
+    let L-num′ = up w32 L-num 1 in
+    cond (leZ L-denum L-num′) (add div′ (pos 1), L-sub L-num′ L-denum) (div′, L-num′)
 
-module _ (k num q d : ℕ) where
-  turn-yes : d ≤ 2 * num → loop (suc k) num q d ≡ loop k (2 * num - d) (2 * q + 1) d
-  unfolding loop
-  turn-yes h = rw (le-leb d (2 * num) h) refl
+-- after k iterations: div is the quotient q and L_num the rest m of n · 2 ^ k by d; where m is not below d, q has ones only
+record Turned (n d k : ℕ) (t : ℤ × ℤ) : Type 0 where
+  q : ℕ
+  m : ℕ
+  is : t ≡ (pos q, pos m)
+  few : q < 2 ^ k
+  whole : q * d + m ≡ n * 2 ^ k
+  rest : (m < d) ⊎ (q + 1 ≡ 2 ^ k)
 
-  turn-no : 2 * num < d → loop (suc k) num q d ≡ loop k (2 * num) (2 * q) d
-  unfolding loop
-  turn-no h = rw (lt-leb d (2 * num) h) refl
+-- n is a word
+module _ (n d : ℕ) (h : n ≤ 32767) where
+  -- before an iteration
+  module _ (k : ℕ) (l : k < 15) {t : ℤ × ℤ} (u : Turned n d k t) where
+    -- twice div is a word, and twice L_num is a long word
+    shifted : SFits w16 (pos (u .q * 2)) × SFits w32 (pos (u .m * 2))
+    shifted =
+        let p : 2 ^ k ≤ 16384 = pow-mono {i = k} {j = 14} (omega arith) in
+        (omega (zar, u .few), omega (zar, u .whole, mul-le-mul h p))
 
--- the arithmetic of one iteration, with p for 2 ^ k and x for what is left of the numerator
-taken : (num q d p x : ℕ) → 0 < d → x + d ≡ 2 * num → (2 * q + 1) * p + (x * p) / d ≡ q * (2 * p) + (num * (2 * p)) / d
-taken num q d p x h e =
-    let n : num * (2 * p) ≡ x * p + d * p = omega (arith, ap (λ (y : ℕ). y * p) e) in
-    rw n (omega (arith, add-mul-div-left (x * p) p h))
+    -- so neither of its two shifts loses anything
+    shifts : (pos (u .q) << 1 ≡ pos (u .q * 2)) × (up w32 (pos (u .m)) 1 ≡ pos (u .m * 2))
+    shifts = (keep-plain (shifted .0), keep-plain (shifted .1))
 
-left : (num q d p : ℕ) → 2 * q * p + (2 * num * p) / d ≡ q * (2 * p) + (num * (2 * p)) / d
-left num q d p = let n : num * (2 * p) ≡ 2 * num * p = omega arith in rw n (omega arith)
+    -- after it, where L_num >= L_denum
+    taken : d ≤ u .m * 2 → Turned n d (suc k) (div-turn (pos d) k t)
+    unfolding div-turn
+    taken g =
+        let b : leZ (pos d) (pos (u .m * 2)) ≡ true = omega zar in
+        let small : 2 ^ suc k ≤ 32768 = pow-mono {i = suc k} {j = 15} l in
+        let long : u .m * 2 < 2147483648 = omega (arith, know (shifted .1)) in
+        rw (u .is, shifts .0, shifts .1, b)
+        (record {
+          q = u .q * 2 + 1;
+          m = u .m * 2 - d;
+          is =
+              ap₂ (λ (x y : ℤ). (x, y)) (plus-plain (pos (u .q * 2)) (pos 1) (omega (zar, u .few, pow-succ' 2 k)))
+              (omega (zar, minus-clip w32 (pos (u .m * 2)) (pos d), minus-is (pos (u .m * 2)) (pos d)));
+          few = omega (arith, u .few, pow-succ' 2 k);
+          whole = rw (pow-succ' 2 k) (omega (arith, u .whole));
+          rest = ⊎-elim (λ r. inl (omega arith)) (λ r. inr (omega (arith, pow-succ' 2 k))) (u .rest);
+        })
 
--- from a numerator below the divisor, k iterations add the first k bits of the fraction
-loop-below : (k num q d : ℕ) → num < d → loop k num q d ≡ q * 2 ^ k + (num * 2 ^ k) / d
-unfolding loop
-loop-below zero num q d h = rw (mul-one num, div-eq-of-lt h) (omega arith)
-loop-below (suc k) num q d h = rw (pow-succ' 2 k) (by (λ m p. loop-below k m p d) (le-or-lt d (2 * num)))
-  where
-    by : ((m p : ℕ) → m < d → loop k m p d ≡ p * 2 ^ k + (m * 2 ^ k) / d) → (d ≤ 2 * num) ⊎ (2 * num < d)
-        → loop (suc k) num q d ≡ q * (2 * 2 ^ k) + (num * (2 * 2 ^ k)) / d
-    by ih (inl g) =
-        turn-yes k num q d g
-        ∙ (ih (2 * num - d) (2 * q + 1) (omega arith) ∙ taken num q d (2 ^ k) (2 * num - d) (omega arith) (omega arith))
-    by ih (inr g) = turn-no k num q d g ∙ (ih (2 * num) (2 * q) g ∙ left num q d (2 ^ k))
+    -- and where not
+    left : u .m * 2 < d → Turned n d (suc k) (div-turn (pos d) k t)
+    unfolding div-turn
+    left g =
+        let b : leZ (pos d) (pos (u .m * 2)) ≡ false = omega zar in
+        rw (u .is, shifts .0, shifts .1, b)
+        (record {
+          q = u .q * 2;
+          m = u .m * 2;
+          is = refl;
+          few = omega (arith, u .few, pow-succ' 2 k);
+          whole = rw (pow-succ' 2 k) (omega (arith, u .whole));
+          rest = inl g;
+        })
 
--- from a numerator equal to the divisor, each iteration adds a 1
-loop-same : (k q d : ℕ) → loop k d q d + 1 ≡ (q + 1) * 2 ^ k
-unfolding loop
-loop-same zero q d = omega arith
-loop-same (suc k) q d =
-    let s : 2 * d - d ≡ d = omega arith in
-    rw (turn-yes k d q d (omega arith), s, pow-succ' 2 k) (omega (arith, loop-same k (2 * q + 1) d))
+  -- after any number of them
+  all-turned : (k : ℕ) → k ≤ 15 → Turned n d k (steps (div-turn (pos d)) k 0 (pos 0, pos n))
+  unfolding steps div-turn
+  all-turned zero l = record { q = 0; m = n; is = refl; few = omega arith; whole = omega arith; rest = inr refl }
+  all-turned (suc k) l =
+      let u = all-turned k (omega arith) in
+      rw (steps-last (div-turn (pos d)) k 0 (pos 0, pos n)) (⊎-elim (taken k l u) (left k l u) (le-or-lt d (u .m * 2)))
 
--- the fifteen iterations of the note give div, for denum ≥ num > 0
-pub div-loop : (num denum : ℕ) → 0 < num → num ≤ denum → div (pos num) (pos denum) ≡ pos (loop 15 num 0 denum)
-div-loop num denum p h =
-    ⊎-elim
-    (λ g. let e : num ≡ denum = le-antisymm h g in
-    rw e (above denum denum (omega arith) (omega arith) ∙ ap pos (omega (arith, loop-same 15 0 denum))))
-    (λ g. below num denum g ∙ ap pos (omega (arith, loop-below 15 num 0 denum g)))
-    (le-or-lt denum num)
+  -- the fifteen give div
+  quotient : 0 < d → div (pos n) (pos d) ≡ steps (div-turn (pos d)) 15 0 (pos 0, pos n) .0
+  unfolding div
+  quotient g =
+      let u = all-turned 15 (omega arith) in
+      let e : n * 32768 ≡ u .m + d * u .q = omega (arith, u .whole) in
+      let s : n * 32768 / d ≡ u .m / d + u .q = rw e (add-mul-div-left (u .m) (u .q) g) in
+      let c = clip-is w16 (pos (n * 32768 / d)) in
+      rw (u .is)
+      (⊎-elim
+      (λ (r : u .m < d). omega (zar, c, s, div-eq-of-lt r, u .few))
+      (λ (r : u .q + 1 ≡ 32768). omega (zar, c, s))
+      (u .rest))
+
+-- so the loop gives div, of words num >= 0 and denum > 0; the standard asks for it of denum >= num > 0
+pub div-loop : (num denum : ℤ) → SFits w16 num → leZ (pos 0) num ≡ true → ltZ (pos 0) denum ≡ true
+    → div num denum ≡ steps (div-turn denum) 15 0 (pos 0, num) .0
+div-loop (pos n) (pos d) f h g = quotient n d (omega (arith, know f)) (omega zar)
+div-loop (pos n) (negsuc d) f h g = absurd (omega zar)
+div-loop (negsuc n) denum f h g = absurd (omega zar)
+
+-- and in none of its iterations does div << 1 or L_num << 1 lose anything
+pub div-shifts : (num denum : ℤ) → SFits w16 num → leZ (pos 0) num ≡ true → ltZ (pos 0) denum ≡ true → (k : ℕ) → k < 15
+    → let t = steps (div-turn denum) k 0 (pos 0, num) in (t .0 << 1 ≡ t .0 *ℤ pos 2) × (up w32 (t .1) 1 ≡ t .1 *ℤ pos 2)
+div-shifts (pos n) (pos d) f h g k l =
+    let m : n ≤ 32767 = omega (arith, know f) in
+    let u = all-turned n d m k (omega arith) in
+    rw (u .is) (shifts n d m k l u)
+div-shifts (pos n) (negsuc d) f h g k l = absurd (omega zar)
+div-shifts (negsuc n) denum f h g k l = absurd (omega zar)

@@ -10,12 +10,12 @@ use lib.Pow.{pow-mono, pow-add, pow-pos}
 use lib.Count.{leadingZeros, leading-top}
 use lib.IntN.{ℤ, pos, _*ℤ_, natAbs}
 use lib.Signed.{ltZ}
-use mir.Syntax.{w16, w32}
+use mir.Syntax.{w32}
 use mir.Val.{SFits}
 use borrow.Author.Tests.{le-leb, lt-leb}
 use Rattle.math_integers.specs.Halves.{zar, know, abs-is}
 use Rattle.math_integers.specs.Sums.{scale-is}
-use Rattle.math_lists.specs.First.{first-unique, first-le}
+use Rattle.math_lists.specs.First.{first-unique}
 use Rattle.standard.specs.Arithmetic.{norm, shl}
 use Rattle.law_arithmetic.specs.Shift.{shl-exact}
 
@@ -68,8 +68,3 @@ norm-exact {z} n y h =
     let m = n .shifts in
     let k : natAbs y * 2 ^ m ≤ natAbs z * 2 ^ m = mul-le-mul-right (2 ^ m) h in
     rw (n .is) (shl-exact w32 y m (omega (zar, scale-is y (2 ^ m), ap (λ (x : ℕ). x * 2 ^ m) (abs-is y), n .stays)))
-
--- norm is a word
-pub norm-fits : (z : ℤ) → SFits w16 (norm z)
-unfolding norm
-norm-fits z = omega (zar, first-le (λ n. leb 1073741824 (natAbs z * 2 ^ n)) 31 0)
