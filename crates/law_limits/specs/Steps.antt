@@ -1,11 +1,11 @@
 -- Partial sums of products: after any number of terms the sum is within the bound of all terms together.
 use Prim.Native.Nat.{ℕ, zero, suc, _+_, _*_, _≤_}
-use mathlib.Core.Path.{_≡_, refl}
+use mathlib.Core.Path.{_≡_, refl, ap₂}
 use mathlib.Core.Bool.{true}
 use mathlib.Core.List.{List, [], _∷_, map, zipWith, foldl}
 use native.Mathlib.Nat.{mul-le-mul-left}
 use native.Mathlib.Omega.{arith}
-use lib.IntN.{ℤ, pos, _+ℤ_, natAbs}
+use lib.IntN.{ℤ, pos, _+ℤ_, _*ℤ_, natAbs}
 use lib.ListN.{length, take}
 use borrow.Author.Tests.{leb-true}
 use Rattle.math_integers.specs.Halves.{abs-is, apart}
@@ -14,7 +14,7 @@ use Rattle.math_lists.specs.Cut.{sum}
 use Rattle.math_lists.specs.Every.{every, every-cons}
 use Rattle.standard.specs.Arithmetic.{L-mult}
 use Rattle.standard.specs.Tables.{H}
-use Rattle.law_arithmetic.specs.Product.{L-mult-in}
+use Rattle.law_arithmetic.specs.Product.{L-mult-small}
 use Rattle.law_arithmetic.specs.Sum.{Bounded, none, _also_}
 use Rattle.op_sums.specs.Room.{at-most}
 
@@ -27,19 +27,36 @@ partial (_also_ {x = x} {b = b} k t) C s h (suc n) =
     let z = s +ℤ x in
     omega (arith, partial t (C + b) z (omega (arith, add-is s x, abs-is s, abs-is x, abs-is z, apart z)) n)
 
+-- twice the plain product
+abbrev pub double : ℤ → ℤ → ℤ
+double x y = x *ℤ y +ℤ x *ℤ y
+
+-- of factors whose products have 30 bits, L_mult is this: it never meets −32768 times −32768
+pub doubles : (A B : ℕ) (a b : List ℤ) → every (at-most A) a ≡ true → every (at-most B) b ≡ true → A * B ≤ 1073741823
+    → zipWith L-mult a b ≡ zipWith double a b
+unfolding zipWith
+doubles A B [] b e f m = refl
+doubles A B (x ∷ a) [] e f m = refl
+doubles A B (x ∷ a) (y ∷ b) e f m =
+    let (g, h) = every-cons (at-most A) x a .0 e in
+    let (k, l) = every-cons (at-most B) y b .0 f in
+    let p = mul-in A B x y (omega (arith, leb-true (natAbs x) A g, abs-is x)) (omega (arith, leb-true (natAbs y) B k, abs-is y)) in
+    ap₂ _∷_ (L-mult-small x y (omega arith)) (doubles A B a b h l m)
+
 -- a bound of twice a product, where the first factor is at most A in size
 abbrev bound : ℕ → ℤ → ℤ → ℕ
 bound A x y = 2 * (A * natAbs y)
 
 -- it bounds each term
-products : (A : ℕ) (a b : List ℤ) → every (at-most A) a ≡ true → Bounded (zipWith L-mult a b) (zipWith (bound A) a b)
+products : (A : ℕ) (a b : List ℤ) → every (at-most A) a ≡ true → Bounded (zipWith double a b) (zipWith (bound A) a b)
 unfolding zipWith
 products A [] b e = none
 products A (x ∷ a) [] e = none
 products A (x ∷ a) (y ∷ b) e =
     let (g, h) = every-cons (at-most A) x a .0 e in
     let m = mul-in A (natAbs y) x y (omega (arith, leb-true (natAbs x) A g, abs-is x)) (omega (arith, abs-is y)) in
-    let p : natAbs (L-mult x y) ≤ bound A x y = omega (arith, L-mult-in x y (A * natAbs y) m, abs-is (L-mult x y)) in
+    let z = x *ℤ y in
+    let p : natAbs (double x y) ≤ bound A x y = omega (arith, m, add-is z z, apart (z +ℤ z), abs-is (z +ℤ z)) in
     p also products A a b h
 
 -- the bound of all terms together, where the second factors are at most B in size
@@ -66,10 +83,10 @@ taps = refl
 -- sums (b) to (e)
 pub partial-in : (A B : ℕ) {most : ℕ} (a b : List ℤ)
     → every (at-most A) a ≡ true → every (at-most B) b ≡ true → length a * (2 * (A * B)) ≤ most
-    → (n : ℕ) → natAbs (foldl _+ℤ_ (pos 0) (take n (zipWith L-mult a b))) ≤ most
+    → (n : ℕ) → natAbs (foldl _+ℤ_ (pos 0) (take n (zipWith double a b))) ≤ most
 partial-in A B {most} a b e f m n = omega (arith, partial (products A a b e) 0 (pos 0) (omega arith) n, alike A B a b f)
 
 -- sum (f)
 pub partial-taps : (a : List ℤ) → every (at-most 32768) a ≡ true → (n : ℕ)
-    → natAbs (foldl _+ℤ_ (pos 8192) (take n (zipWith L-mult a H))) ≤ 1625169920
+    → natAbs (foldl _+ℤ_ (pos 8192) (take n (zipWith double a H))) ≤ 1625169920
 partial-taps a e n = omega (arith, partial (products 32768 a H e) 8192 (pos 8192) (omega arith) n, others 32768 a H, taps)

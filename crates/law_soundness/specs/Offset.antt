@@ -48,11 +48,12 @@ module _ (x : ℤ) (h : L-z2-range x ≡ true) where
       let y = x +ℤ pos 16384 in
       omega (arith, range-is 1073611249 1073611249 x h, add-is x (pos 16384), apart y, shr-is y 32768 (omega arith))
 
-  -- so nothing saturates, and no bit is lost
-  rounded-plain : low (L-add x (pos 16384) >> 15) ≡ (x +ℤ pos 16384) >> 15
-  rounded-plain =
-      rw (plus-plain {w = w32} x (pos 16384) (omega (zar, range-is 1073611249 1073611249 x h, add-is x (pos 16384))))
-      (keep-plain (omega (zar, rounded-in)))
+  -- so the rounding does not saturate, and no bit is lost
+  pub rounding-plain : L-add x (pos 16384) ≡ x +ℤ pos 16384
+  rounding-plain = plus-plain x (pos 16384) (omega (zar, range-is 1073611249 1073611249 x h, add-is x (pos 16384)))
+
+  pub sof-plain : low (L-add x (pos 16384) >> 15) ≡ L-add x (pos 16384) >> 15
+  sof-plain = keep-plain (rw rounding-plain (omega (zar, rounded-in)))
 
 module _ (m : Offset) (h : sound-offset m ≡ true) where
   -- both ranges, for `omega`
@@ -69,33 +70,46 @@ module _ (m : Offset) (h : sound-offset m ≡ true) where
       let one = apart (m .L-z2) in
       range-yes 1073611249 1073611249 (m .L-z2) (omega (arith, sound-is)) (omega (arith, sound-is))
 
+  -- which is 31 bits
+  pub L-z2-long : long-range (m .L-z2) ≡ true
+  L-z2-long =
+      let x-in = range-is 1073611249 1073611249 (m .L-z2) L-z2-in in
+      range-yes 1073741824 1073741823 (m .L-z2) (omega arith) (omega arith)
+
 -- ---- the step
 
 module _ (m : Offset) (so : ℤ) (h : sound-offset m ≡ true) (k : so-range so ≡ true) where
+  -- the difference of two samples is a word
+  difference : let s1 = so -ℤ m .z1 in (P s1 ≤ 32764) × (N s1 ≤ 32764)
+  difference = omega (arith, sound-is m h, range-is 16384 16380 so k, minus-is so (m .z1), apart (so -ℤ m .z1))
+
+  pub s1-plain : sub so (m .z1) ≡ so -ℤ m .z1
+  s1-plain = minus-plain so (m .z1) (omega (zar, difference))
+
+  -- and 31 bits, shifted left
+  s2-is : up w32 (sub so (m .z1)) 15 ≡ (so -ℤ m .z1) *ℤ pos 32768
+  s2-is = rw s1-plain (keep-plain (omega (zar, difference, scale-is (so -ℤ m .z1) 32768)))
+
+  pub L-s2-long : long-range (up w32 (sub so (m .z1)) 15) ≡ true
+  L-s2-long =
+      let y = (so -ℤ m .z1) *ℤ pos 32768 in
+      let y-is = scale-is (so -ℤ m .z1) 32768 in
+      rw s2-is (range-yes 1073741824 1073741823 y (omega (arith, difference)) (omega (arith, difference)))
+
   -- L_z2 becomes the plain sum
   pub offset-L-z2 : offset m so .0 .L-z2 ≡ pos 32768 *ℤ (so -ℤ m .z1) +ℤ decayed (m .L-z2)
   unfolding offset
   offset-L-z2 =
-      let s1 = so -ℤ m .z1 in
-      let y = s1 *ℤ pos 32768 in
-      let so-in = range-is 16384 16380 so k in
-      let x-in = range-is 1073611249 1073611249 (m .L-z2) (L-z2-in m h) in
-      let s1-is = minus-is so (m .z1) in
-      let s1-in : (P s1 ≤ 32764) × (N s1 ≤ 32764) = omega (arith, sound-is m h, apart s1) in
-      let y-is = scale-is s1 32768 in
-      let plain-s1 : sub so (m .z1) ≡ s1 = minus-plain so (m .z1) (omega zar) in
-      let plain-y : up w32 s1 15 ≡ y = keep-plain (omega zar) in
-      let long-x : long-range (m .L-z2) ≡ true = range-yes 1073741824 1073741823 (m .L-z2) (omega arith) (omega arith) in
-      let long-y : long-range y ≡ true = range-yes 1073741824 1073741823 y (omega arith) (omega arith) in
-      rw (plain-s1, plain-y, recursive-plain (m .L-z2) long-x y long-y, *ℤ-comm s1 (pos 32768)) refl
+      recursive-plain (m .L-z2) (L-z2-long m h) (up w32 (sub so (m .z1)) 15) L-s2-long
+      ∙ ap (λ (y : ℤ). y +ℤ decayed (m .L-z2)) (s2-is ∙ *ℤ-comm (so -ℤ m .z1) (pos 32768))
 
   -- z1 becomes the sample
-  pub offset-z1 : offset m so .0 .z1 ≡ so
+  offset-z1 : offset m so .0 .z1 ≡ so
   unfolding offset
   offset-z1 = refl
 
   -- so the error decays, and 33 · z1 is taken from it
-  pub offset-error : error (offset m so .0) ≡ decayed (error m) -ℤ pos 33 *ℤ m .z1
+  offset-error : error (offset m so .0) ≡ decayed (error m) -ℤ pos 33 *ℤ m .z1
   offset-error =
       let z = m .z1 in
       let s1 = so -ℤ z in
@@ -124,9 +138,11 @@ module _ (m : Offset) (so : ℤ) (h : sound-offset m ≡ true) (k : so-range so 
       rw (offset-error, offset-z1, k, d-in) refl
 
   -- the output is the new L_z2, rounded
-  pub offset-sof : offset m so .1 ≡ (offset m so .0 .L-z2 +ℤ pos 16384) >> 15
+  offset-sof : offset m so .1 ≡ (offset m so .0 .L-z2 +ℤ pos 16384) >> 15
   unfolding offset
-  offset-sof = rounded-plain (offset m so .0 .L-z2) (L-z2-in (offset m so .0) offset-sound)
+  offset-sof =
+      let z2-in = L-z2-in (offset m so .0) offset-sound in
+      sof-plain (offset m so .0 .L-z2) z2-in ∙ ap (λ (y : ℤ). y >> 15) (rounding-plain (offset m so .0 .L-z2) z2-in)
 
   -- and is from −32764 to 32764
   pub offset-in : sof-range (offset m so .1) ≡ true

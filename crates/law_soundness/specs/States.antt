@@ -61,7 +61,7 @@ unfolding sound-coder coded analysis
 coded-sound c s h w = offset-all-sound (record { z1 = c .z1; L-z2 = c .L-z2 }) s h w
 
 -- and so after any number of frames
-pub coded-all-sound : (c : Coder) (frames : List (List ℤ))
+coded-all-sound : (c : Coder) (frames : List (List ℤ))
     → sound-coder c ≡ true → every (every word) frames ≡ true → sound-coder (run coded c frames .0) ≡ true
 coded-all-sound c frames h w =
     run-keeps coded (λ c. sound-coder c ≡ true) (every word) (λ t. true) (λ c s h w. (coded-sound c s h w, refl)) c frames h w .0
@@ -84,7 +84,7 @@ module _ (frames : List (List ℤ)) (h : every (every word) frames ≡ true) whe
 -- ---- the decoder
 
 -- a sound decoder is sound after any number of frames, whatever they are
-pub decoded-all-sound : (m : Decoder) (frames : List Frame) → sound-decoder m ≡ true → sound-decoder (run decoded m frames .0) ≡ true
+decoded-all-sound : (m : Decoder) (frames : List Frame) → sound-decoder m ≡ true → sound-decoder (run decoded m frames .0) ≡ true
 decoded-all-sound m frames h =
     run-keeps decoded (λ m. sound-decoder m ≡ true) (λ f. true) (λ s. true) (λ m f h _. (decoded-sound m f h, refl))
     m frames h (every-all _ (λ f. refl) frames) .0
@@ -97,7 +97,7 @@ decode-sound m w s h =
 
 module _ (frames : List Frame) where
   -- every decoder that came from home is sound
-  pub decoded-from-home : sound-decoder (run decoded home-decoder frames .0) ≡ true
+  decoded-from-home : sound-decoder (run decoded home-decoder frames .0) ≡ true
   decoded-from-home = decoded-all-sound home-decoder frames home-decoder-sound
 
   -- so decode never refuses it for its state
