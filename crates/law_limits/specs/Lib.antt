@@ -5,5 +5,6 @@ pub mod Sizes
 pub mod Steps
 pub mod Sums
 pub mod Exact
+pub mod Inverse
 pub mod Shifts
 pub mod Received

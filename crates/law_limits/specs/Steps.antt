@@ -80,6 +80,10 @@ taps : sum (map (λ y. 2 * (32768 * natAbs y)) H) ≡ 1625161728
 unfolding H
 taps = refl
 
+pub H-sizes : every (at-most 8192) H ≡ true
+unfolding H every
+H-sizes = refl
+
 -- sums (b) to (e)
 pub partial-in : (A B : ℕ) {most : ℕ} (a b : List ℤ)
     → every (at-most A) a ≡ true → every (at-most B) b ≡ true → length a * (2 * (A * B)) ≤ most

@@ -1,92 +1,151 @@
 -- House rules, 'Six sums', over a whole frame: the sums (a) to (f) never saturate, from any sound state.
-use Prim.Native.Nat.{ℕ, _-_, _<_, _≤_}
-use mathlib.Core.Path.{_≡_, _∙_}
+use Prim.Native.Nat.{ℕ, _-_, _*_, _<_, _≤_}
+use mathlib.Core.Path.{_≡_, ap, _∙_}
 use mathlib.Core.Bool.{true}
 use mathlib.Core.List.{List, map, zipWith, foldl}
 use native.Mathlib.Omega.{arith}
-use lib.IntN.{ℤ, pos, _+ℤ_, natAbs}
+use lib.IntN.{ℤ, pos, _+ℤ_, _-ℤ_, _*ℤ_, natAbs}
 use lib.ListN.{length, take, drop, length-map, length-drop}
+use lib.Seq.{take-all}
 use lib.Signed.{leZ}
-use mir.Syntax.{w16}
-use Rattle.math_integers.specs.Halves.{zar, apart, abs-is}
+use mir.Syntax.{w16, w32}
 use Rattle.math_lists.specs.Scan.{run}
-use Rattle.math_lists.specs.Every.{every, every-drop, every-take}
-use Rattle.standard.specs.Arithmetic.{_>>_, within, shr, L-mult, L-sum, L-squares}
+use Rattle.math_lists.specs.Every.{every, every-at, every-drop, every-take}
+use Rattle.standard.specs.Arithmetic.{_>>_, low, up, within, shr, sub, mult-r, L-add, L-sub, L-mult, L-sum, L-squares}
 use Rattle.standard.specs.Tables.{_at_, neg, H}
-use Rattle.standard.specs.Preprocessing.{downscaled, offset}
+use Rattle.standard.specs.Preprocessing.{downscaled, Offset, offset}
 use Rattle.standard.specs.LongTerm.{back, scal, correlations, L-power}
 use Rattle.standard.specs.Rpe.{grid}
 use Rattle.standard.specs.Coder.{Coder, coded}
 use Rattle.standard.specs.House.{home-coder, sound-coder}
 use Rattle.law_arithmetic.specs.Within.{word, within-is}
+use Rattle.law_lengths.specs.Analysis.{downscaled-length}
 use Rattle.law_lengths.specs.Subframes.{Lag, back-length, grid-length, weighted-length}
-use Rattle.law_soundness.specs.Offset.{plain-offset}
-use Rattle.law_soundness.specs.States.{offset-all-in, offset-all-plain, coded-from-home}
-use Rattle.lpc_autocorrelation.specs.Bounds.{L-ACF-steps, L-ACF-in}
-use Rattle.long_search.specs.Bounds.{correlation-in, correlation-steps, power-in, power-steps}
-use Rattle.rpe_weighting.specs.Bounds.{energy-in, energy-steps, filter-in, filter-steps}
+use Rattle.law_soundness.specs.Ranges.{so-range}
+use Rattle.law_soundness.specs.Decay.{msp, lsp, msp-plain, left-plain, lsp-plain, low-plain, high-plain, first-plain, second-plain}
+use Rattle.law_soundness.specs.Offset.{sound-offset, plain-offset, L-z2-in, L-z2-long, L-s2-long, s1-plain, rounding-plain, sof-plain, offset-sound}
+use Rattle.law_soundness.specs.States.{downscaled-range, offset-all-sound, offset-all-in, offset-all-plain, coded-from-home}
+use Rattle.op_sums.specs.Room.{at-most}
+use Rattle.lpc_autocorrelation.specs.Bounds.{L-ACF-steps}
+use Rattle.long_search.specs.Bounds.{correlation-steps, power-in, power-steps}
+use Rattle.rpe_weighting.specs.Bounds.{energy-in, energy-steps, filter-steps}
 use Rattle.rpe_weighting.specs.Filter.{around}
-use Rattle.law_limits.specs.Signals.{kept, sof, small, sums, part, history, wt, e, x}
+use Rattle.law_limits.specs.Signals.{kept, memory, sof, small, sums, part, history, wt, e, x}
 use Rattle.law_limits.specs.Words.{Carried, small-length, part-words, part-length, e-words, e-length, x-words, history-words, history-length}
 use Rattle.law_limits.specs.Words.{home-carried, coded-all-carried}
 use Rattle.law_limits.specs.Sizes.{down-sizes, word-sizes, small-sizes, wt-sizes, back-words, grids-words, around-words}
-use Rattle.law_limits.specs.Steps.{partial-in, partial-taps}
+use Rattle.law_limits.specs.Steps.{double, doubles, H-sizes, partial-in, partial-taps}
 
--- a sum that the standard makes by L_add: it is the plain sum of its terms, and it is within the bound, as is each partial sum
-pub record Inside (most : ℕ) (sum start : ℤ) (terms : List ℤ) : Type 0 where
+-- 4.2.2 on a sample so: no operation meets a limit, and no low word loses a bit. `FrameShifts` has its two left shifts
+pub record OffsetSums (m : Offset) (so : ℤ) : Type 0 where
+  -- s1 = sub( so, z1 )
+  pub s1 : sub so (m .z1) ≡ so -ℤ m .z1
+  -- msp = L_z2 >> 15, its low word
+  pub msp-word : msp (m .L-z2) ≡ m .L-z2 >> 15
+  -- L_sub( L_z2, ( msp << 15 ) )
+  pub left : let high = up w32 (msp (m .L-z2)) 15 in L-sub (m .L-z2) high ≡ m .L-z2 -ℤ high
+  -- lsp, the low word of this
+  pub lsp-word : lsp (m .L-z2) ≡ L-sub (m .L-z2) (up w32 (msp (m .L-z2)) 15)
+  -- temp = mult_r( lsp, 32735 )
+  pub temp : let lsp = lsp (m .L-z2) in mult-r lsp (pos 32735) ≡ (lsp *ℤ pos 32735 +ℤ pos 16384) >> 15
+  -- L_s2 = L_add( L_s2, temp )
+  pub L-s2 : let L-s2 = up w32 (sub so (m .z1)) 15 in let temp = mult-r (lsp (m .L-z2)) (pos 32735) in L-add L-s2 temp ≡ L-s2 +ℤ temp
+  -- L_mult( msp, 32735 )
+  pub product : let msp = msp (m .L-z2) in L-mult msp (pos 32735) ≡ double msp (pos 32735)
+  -- L_z2 = L_add( L_mult( msp, 32735 ) >> 1, L_s2 )
+  pub L-z2 : let L-temp = L-mult (msp (m .L-z2)) (pos 32735) >> 1 in
+      let L-s2 = L-add (up w32 (sub so (m .z1)) 15) (mult-r (lsp (m .L-z2)) (pos 32735)) in L-add L-temp L-s2 ≡ L-temp +ℤ L-s2
+  -- L_add( L_z2, 16384 ), of the new L_z2
+  pub rounding : let L-z2 = offset m so .0 .L-z2 in L-add L-z2 (pos 16384) ≡ L-z2 +ℤ pos 16384
+  -- sof, the low word of this >> 15
+  pub sof : let high = L-add (offset m so .0 .L-z2) (pos 16384) >> 15 in low high ≡ high
+
+-- a sum of products that the standard makes by L_mult and L_add, from a start: neither meets a limit, so the sum is that of twice the plain
+-- products; and it is within the bound, as is each partial sum
+pub record Inside (most : ℕ) (sum start : ℤ) (a b : List ℤ) : Type 0 where
+  pub terms : zipWith L-mult a b ≡ zipWith double a b
+  pub plain : sum ≡ foldl _+ℤ_ start (zipWith double a b)
   pub size : natAbs sum ≤ most
-  pub plain : sum ≡ foldl _+ℤ_ start terms
-  pub steps : (n : ℕ) → natAbs (foldl _+ℤ_ start (take n terms)) ≤ most
-
--- the squares of a list whose elements are shifted right by n first
-abbrev pub squares : ℕ → List ℤ → List ℤ
-squares n ys =
-    let zs = map (λ y. y >> n) ys in
-    zipWith L-mult zs zs
+  pub steps : (n : ℕ) → natAbs (foldl _+ℤ_ start (take n (zipWith double a b))) ≤ most
 
 -- the sums (a) and (b), of a frame
 pub record FrameSums (c : Coder) (sop : List ℤ) : Type 0 where
-  -- (a) the offset filter: after any number k of samples it has not saturated and has lost no bit
+  -- (a) the offset filter, at each sample
+  pub operations : (k : ℕ) → k < 160 → OffsetSums (memory c sop k) (downscaled sop at k)
+  -- so after any number k of samples it is the filter on integers, without a clip and without lost bits
   pub offset : (k : ℕ) → let so = downscaled (take k sop) in run offset (kept c) so ≡ run plain-offset (kept c) so
   -- and its 16-bit output is from −32764 to 32764
   pub output : every (within (neg 32764) (pos 32764)) (sof c sop) ≡ true
   -- (b) the nine autocorrelations
-  pub autocorrelation : (k : ℕ) → k < 9
-      → let small = small c sop in Inside 1342177280 (sums c sop at k) (pos 0) (zipWith L-mult (drop k small) small)
+  pub autocorrelation : (k : ℕ) → k < 9 → let small = small c sop in Inside 1342177280 (sums c sop at k) (pos 0) (drop k small) small
 
 -- the sums (c) to (f), of a sub-frame that starts from dp and d
 pub record SubSums (dp d : List ℤ) : Type 0 where
   -- (c) each lag sum
-  pub lag : (lag : ℕ) → Lag lag → Inside 1342177280 (correlations d dp at (lag - 40)) (pos 0) (zipWith L-mult (wt d) (back lag dp))
+  pub lag : (lag : ℕ) → Lag lag → Inside 1342177280 (correlations d dp at (lag - 40)) (pos 0) (wt d) (back lag dp)
   -- (d) the power at a lag, for every lag
-  pub power : (lag : ℕ) → Lag lag → Inside 1342177280 (L-power lag dp) (pos 0) (squares 3 (back lag dp))
+  pub power : (lag : ℕ) → Lag lag → let wt = map (λ y. y >> 3) (back lag dp) in Inside 1342177280 (L-power lag dp) (pos 0) wt wt
   -- which is not negative
   pub power-above : (lag : ℕ) → Lag lag → leZ (pos 0) (L-power lag dp) ≡ true
   -- (e) a grid energy
-  pub energy : (m : ℕ) → m ≤ 3 → let xM = grid m (x dp d) in Inside 1744830464 (L-squares 2 xM) (pos 0) (squares 2 xM)
+  pub energy : (m : ℕ) → m ≤ 3
+      → let xM = grid m (x dp d) in let wt = map (λ y. y >> 2) xM in Inside 1744830464 (L-squares 2 xM) (pos 0) wt wt
   -- which is not negative
   pub energy-above : (m : ℕ) → m ≤ 3 → leZ (pos 0) (L-squares 2 (grid m (x dp d))) ≡ true
   -- (f) the weighting sum before its doublings
-  pub weighting : (k : ℕ) → k < 40
-      → let wt = drop k (around (e dp d)) in Inside 1625169920 (L-sum (pos 8192) wt H) (pos 8192) (zipWith L-mult wt H)
+  pub weighting : (k : ℕ) → k < 40 → let wt = drop k (around (e dp d)) in Inside 1625169920 (L-sum (pos 8192) wt H) (pos 8192) wt H
 
 -- ---- (a) and (b)
+
+-- 4.2.2 on a sample, from a sound state
+offset-sums : (m : Offset) (so : ℤ) → sound-offset m ≡ true → so-range so ≡ true → OffsetSums m so
+offset-sums m so h k =
+    let x = m .L-z2 in
+    let s = up w32 (sub so (m .z1)) 15 in
+    let long = L-z2-long m h in
+    let next = L-z2-in (offset m so .0) (offset-sound m so h k) in
+    record {
+      s1 = s1-plain m so h k;
+      msp-word = msp-plain x long;
+      left = left-plain x long;
+      lsp-word = lsp-plain x long;
+      temp = low-plain x long;
+      L-s2 = first-plain x long s (L-s2-long m so h k);
+      product = high-plain x long;
+      L-z2 = second-plain x long s (L-s2-long m so h k);
+      rounding = rounding-plain (offset m so .0 .L-z2) next;
+      sof = sof-plain (offset m so .0 .L-z2) next;
+    }
+
+-- a sum whose factors are at most A and B in size
+inside : (A B : ℕ) {most : ℕ} {sum start : ℤ} {a b : List ℤ} → A * B ≤ 1073741823
+    → every (at-most A) a ≡ true → every (at-most B) b ≡ true → sum ≡ foldl _+ℤ_ start (zipWith L-mult a b)
+    → ((n : ℕ) → natAbs (foldl _+ℤ_ start (take n (zipWith double a b))) ≤ most) → Inside most sum start a b
+inside A B {most} {sum} {start} {a} {b} m e f p steps =
+    let t = doubles A B a b e f m in
+    let plain : sum ≡ foldl _+ℤ_ start (zipWith double a b) = p ∙ ap (foldl _+ℤ_ start) t in
+    let n = length (zipWith double a b) in
+    record { terms = t; plain = plain; size = rw plain (rw (take-all n (zipWith double a b) (omega arith)) at (steps n)); steps = steps }
+
+-- from 0 on, with one bound for all terms
+inside-all : (A B : ℕ) {most : ℕ} {sum : ℤ} {a b : List ℤ} → A * B ≤ 1073741823 → length a * (2 * (A * B)) ≤ most
+    → every (at-most A) a ≡ true → every (at-most B) b ≡ true → sum ≡ foldl _+ℤ_ (pos 0) (zipWith L-mult a b)
+    → Inside most sum (pos 0) a b
+inside-all A B {a = a} {b} m l e f p = inside A B m e f p (partial-in A B a b e f l)
 
 -- the sums (a) and (b) of a frame, from a sound state
 pub frame-sums : (c : Coder) (sop : List ℤ) → sound-coder c ≡ true → length sop ≡ 160 → every word sop ≡ true → FrameSums c sop
 unfolding sound-coder
 frame-sums c sop sound l w =
     record {
+      operations = λ k h.
+          offset-sums (memory c sop k) (downscaled sop at k) (offset-all-sound (kept c) (take k sop) sound (every-take word k sop w))
+          (every-at so-range (downscaled sop) k (pos 0) (downscaled-range sop w) (omega (arith, downscaled-length sop)));
       offset = λ k. offset-all-plain (kept c) (take k sop) sound (every-take word k sop w);
       output = offset-all-in (kept c) sop sound w;
       autocorrelation = λ k h.
-          record {
-            size = L-ACF-in (small c sop) n (small-sizes c sop) k h;
-            plain = L-ACF-steps (small c sop) n (small-sizes c sop) k h;
-            steps =
-                partial-in 2048 2048 _ _ (every-drop _ k (small c sop) (small-sizes c sop)) (small-sizes c sop)
-                (omega (arith, n, length-drop k (small c sop)));
-          };
+          inside-all 2048 2048 (omega arith) (omega (arith, n, length-drop k (small c sop)))
+          (every-drop _ k (small c sop) (small-sizes c sop)) (small-sizes c sop) (L-ACF-steps (small c sop) n (small-sizes c sop) k h);
     }
   where
     n : length (small c sop) ≡ 160
@@ -99,48 +158,26 @@ pub sub-sums : (dp d : List ℤ) → every word dp ≡ true → length dp ≡ 12
 sub-sums dp d v n w l =
     record {
       lag = λ lag h.
-          record {
-            size = correlation-in d dp w v l n lag h;
-            plain = correlation-steps d dp w v l n lag h;
-            steps =
-                partial-in 512 32768 _ _ (wt-sizes d w) (word-sizes (back lag dp) (back-words lag dp v))
-                (omega (arith, length-map d (λ x. shr w16 x (scal d))));
-          };
+          inside-all 512 32768 (omega arith) (omega (arith, length-map d (λ x. shr w16 x (scal d))))
+          (wt-sizes d w) (word-sizes (back lag dp) (back-words lag dp v)) (correlation-steps d dp w v l n lag h);
       power = λ lag h.
-          record {
-            size = omega (zar, power-range lag h, abs-is (L-power lag dp), apart (L-power lag dp));
-            plain = power-steps dp v n lag h;
-            steps =
-                let small = down-sizes 3 (back lag dp) (omega arith) (back-words lag dp v) in
-                partial-in 4096 4096 _ _ small small (omega (arith, length-map (back lag dp) (λ y. y >> 3), back-length lag dp h n));
-          };
-      power-above = λ lag h. power-range lag h .0;
+          let small = down-sizes 3 (back lag dp) (omega arith) (back-words lag dp v) in
+          inside-all 4096 4096 (omega arith) (omega (arith, length-map (back lag dp) (λ y. y >> 3), back-length lag dp h n))
+          small small (power-steps dp v n lag h);
+      power-above = λ lag h. within-is (pos 0) (pos 1342177280) (L-power lag dp) (power-in dp v n lag h) .0;
       energy = λ m h.
           let xM = grid m (x dp d) in
-          record {
-            size = omega (zar, energy-range m h, abs-is (L-squares 2 xM), apart (L-squares 2 xM));
-            plain = energy-steps m (x dp d) h (weighted-length (e dp d)) (x-words dp d);
-            steps =
-                let small = down-sizes 2 xM (omega arith) (grids-words dp d m) in
-                partial-in 8192 8192 _ _ small small (omega (arith, length-map xM (λ y. y >> 2), grid-length m (x dp d)));
-          };
-      energy-above = λ m h. energy-range m h .0;
+          let small = down-sizes 2 xM (omega arith) (grids-words dp d m) in
+          inside-all 8192 8192 (omega arith) (omega (arith, length-map xM (λ y. y >> 2), grid-length m (x dp d)))
+          small small (energy-steps m (x dp d) h (weighted-length (e dp d)) (x-words dp d));
+      energy-above = λ m h.
+          within-is (pos 0) (pos 1744830464) (L-squares 2 (grid m (x dp d)))
+          (energy-in m (x dp d) h (weighted-length (e dp d)) (x-words dp d)) .0;
       weighting = λ k h.
-          record {
-            size = filter-in (e dp d) k (e-length dp d n l) (e-words dp d) h;
-            plain = filter-steps (e dp d) k (e-length dp d n l) (e-words dp d) h;
-            steps = partial-taps _ (word-sizes _ (every-drop word k (around (e dp d)) (around-words dp d)));
-          };
+          let words = word-sizes _ (every-drop word k (around (e dp d)) (around-words dp d)) in
+          inside 32768 8192 (omega arith) words H-sizes (filter-steps (e dp d) k (e-length dp d n l) (e-words dp d) h)
+          (partial-taps _ words);
     }
-  where
-    power-range : (lag : ℕ) → Lag lag → (leZ (pos 0) (L-power lag dp) ≡ true) × (leZ (L-power lag dp) (pos 1342177280) ≡ true)
-    power-range lag h = within-is (pos 0) (pos 1342177280) (L-power lag dp) (power-in dp v n lag h)
-
-    energy-range : (m : ℕ) → m ≤ 3
-        → let energy = L-squares 2 (grid m (x dp d)) in (leZ (pos 0) energy ≡ true) × (leZ energy (pos 1744830464) ≡ true)
-    energy-range m h =
-        within-is (pos 0) (pos 1744830464) (L-squares 2 (grid m (x dp d)))
-        (energy-in m (x dp d) h (weighted-length (e dp d)) (x-words dp d))
 
 -- ---- all six
 
