@@ -82,10 +82,6 @@ B-up i = keep-plain {w = w16} {z = B at i *ℤ pos 2} (omega (zar, B-in i, abs-i
 pub ratio-up : (LARp : ℤ) → ltZ (abs LARp) (pos 11059) ≡ true → Exact w16 (abs LARp) 1
 ratio-up LARp h = keep-plain {w = w16} {z = abs LARp *ℤ pos 2} (omega (zar, abs-clip LARp, scale-is (abs LARp) 2))
 
--- 4.2.15: exp << 3 and mant << 1, of small numbers
-pub small-up : (m n : ℕ) → m * 2 ^ n ≤ 32767 → Exact w16 (pos m) n
-small-up m n h = keep-plain {w = w16} {z = pos m *ℤ pos (2 ^ n)} (omega (zar, scale-is (pos m) (2 ^ n)))
-
 -- 4.2.16: temp << 12, of a code from 0 to 7, doubled and 7 less
 pub pulse-up : (xMc : ℤ) → fit 3 xMc ≡ true → Exact w16 (sub (xMc << 1) (pos 7)) 12
 pulse-up xMc h =

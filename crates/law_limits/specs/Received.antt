@@ -1,4 +1,5 @@
--- House rules, 'Left shifts': no left shift of 4.3 loses bits, whatever codewords are received.
+-- House rules, 'Left shifts': no left shift of 4.3 loses bits, whatever codewords are received. `ReadShifts` has all of them: the doubling of
+-- 4.3.6 is a sum, by add.
 use Prim.Native.Nat.{ℕ, _+_, _<_}
 use mathlib.Core.Path.{_≡_, refl}
 use mathlib.Core.Bool.{true}
@@ -7,7 +8,7 @@ use native.Mathlib.Omega.{arith}
 use lib.Dec.{leb}
 use lib.IntN.{ℤ, pos}
 use lib.ListN.{length, getD, take, drop, length-take, length-drop}
-use lib.Signed.{ltZ, leZ}
+use lib.Signed.{ltZ}
 use mir.Syntax.{w16}
 use borrow.Author.Tests.{leb-true}
 use Rattle.math_lists.specs.Every.{every, every-at}
@@ -15,24 +16,14 @@ use Rattle.math_lists.specs.Tab.{map-at, zip-at, zip-drop, zip-replicate}
 use Rattle.standard.specs.Arithmetic.{_>>_, _<<_, add, sub, abs}
 use Rattle.standard.specs.Tables.{_at_, B, MIC, LARc-widths}
 use Rattle.standard.specs.Frame.{sample, Subframe, Frame, places, sub-widths, sub-received, received}
-use Rattle.standard.specs.Rpe.{amplitude}
 use Rattle.standard.specs.House.{fit}
 use Rattle.law_arithmetic.specs.Clip.{plus-fits}
 use Rattle.law_fields.specs.Samples.{sample-word}
 use Rattle.law_fields.specs.Valid.{low-bits, low-bits-fit}
-use Rattle.rpe_inverse.specs.Shifts.{twice, half-up}
 use Rattle.frame_received.specs.Sub.{field-fit}
 use Rattle.frame_received.specs.Received.{sub-frame, sub-frames, ratio-words, received-is}
-use Rattle.law_limits.specs.Exact.{Exact, ExactBy, code-up, B-up, ratio-up, pulse-up}
-
--- the left shifts of a sub-frame that is received: they lose nothing
-pub record SubReadShifts (f : Subframe) : Type 0 where
-  -- 4.2.16: xMc << 1
-  pub doubling : (k : ℕ) → k < 13 → Exact w16 (f .xMc at k) 1
-  -- 4.2.16: temp << 12
-  pub raising : (k : ℕ) → k < 13 → Exact w16 (sub (f .xMc at k << 1) (pos 7)) 12
-  -- 4.2.16: 1 << (temp2 − 1); at exponent 6 it is a right shift
-  pub rounding : let exp = amplitude (f .xmaxc) .exp in leZ exp (pos 5) ≡ true → ExactBy w16 (pos 1) (sub (sub (pos 6) exp) (pos 1))
+use Rattle.law_limits.specs.Exact.{Exact, code-up, B-up, ratio-up}
+use Rattle.law_limits.specs.Inverse.{InverseShifts, inverse-shifts}
 
 -- the left shifts of a frame that is received: they lose nothing
 pub record ReadShifts (f : Frame) : Type 0 where
@@ -41,20 +32,15 @@ pub record ReadShifts (f : Frame) : Type 0 where
   pub bases : (i : ℕ) → Exact w16 (B at i) 1
   -- 4.2.9.2: temp << 1, whatever LARp is
   pub coefficients : (LARp : ℤ) → let temp = abs LARp in ltZ temp (pos 11059) ≡ true → Exact w16 temp 1
-  -- 4.3.1, of sub-frame n
-  pub subframes : (n : ℕ) (z : Subframe) → n < 4 → SubReadShifts (getD (f .subframes) n z)
+  -- 4.3.1, which is 4.2.15 and 4.2.16, of sub-frame n
+  pub subframes : (n : ℕ) (z : Subframe) → n < 4 → InverseShifts (getD (f .subframes) n z)
   -- 4.3.7: (srop >> 3) << 3, whatever sro is
   pub truncation : (sro : ℤ) → Exact w16 (add sro sro >> 3) 3
 
 -- the shifts of a sub-frame that is read from seventeen codewords
-sub-read : (c : List ℤ) → length c ≡ 17 → SubReadShifts (sub-frame c)
+sub-read : (c : List ℤ) → length c ≡ 17 → InverseShifts (sub-frame c)
 unfolding sub-frame sub-received sub-widths
-sub-read c l =
-    record {
-      doubling = λ k h. twice _ (pulse k h);
-      raising = λ k h. pulse-up _ (pulse k h);
-      rounding = λ h. let (m, i, p) = half-up _ (field-fit c 3 l (omega arith)) h in record { count = m; is = i; exact = p };
-    }
+sub-read c l = inverse-shifts (sub-frame c) (field-fit c 3 l (omega arith)) pulse
   where
     -- the pulses are the last thirteen fields, of three bits each
     pulse : (k : ℕ) → k < 13 → fit 3 (sub-frame c .xMc at k) ≡ true
@@ -83,7 +69,7 @@ read-shifts c l =
         rw (zip-at low-bits LARc-widths (take 8 c) i 0 (pos 0) (pos 0) h (omega arith))
         (low-bits-fit (getD LARc-widths i 0) (take 8 c at i))
 
-    sub : (n : ℕ) (z : Subframe) → n < 4 → SubReadShifts (getD (sub-frames c) n z)
+    sub : (n : ℕ) (z : Subframe) → n < 4 → InverseShifts (getD (sub-frames c) n z)
     sub n z h =
         let p = getD places n 0 in
         let room = leb-true (p + 17) 76 (every-at (λ p. leb (p + 17) 76) places n 0 refl h) in

@@ -1,5 +1,11 @@
 -- House rules, 'Left shifts': over a whole frame only one left shift of 4.2 loses bits, the rescaling in 4.2.4; and what that one loses.
-use Prim.Native.Nat.{ℕ, _^_, _<_, _≤_}
+--
+-- `FrameShifts` and `SubShifts` have every left shift of 4.2.1 to 4.2.18, and every right shift by a computed count, which would be a left
+-- shift if the count were negative. They leave out
+--   the << 1 in L_mult (4.1): it is twice the product, and `OffsetSums` and `Inside` (Sums) show that it never meets a limit;
+--   xmax >> temp (4.2.15): its count is exp + 5, a natural number (`exponent`);
+--   the doublings of 4.2.8 and 4.2.13: they are sums, by add and L_add.
+use Prim.Native.Nat.{ℕ, _^_, _<_}
 use mathlib.Core.Path.{_≡_}
 use mathlib.Core.Bool.{true, false}
 use mathlib.Core.List.{List}
@@ -13,6 +19,7 @@ use Rattle.math_integers.specs.Halves.{apart, abs-is, zar}
 use Rattle.math_integers.specs.Sums.{minus-is}
 use Rattle.math_lists.specs.Tab.{tab-at-zero, map-at}
 use Rattle.math_lists.specs.Every.{every, every-at}
+use Rattle.math_lists.specs.Steps.{steps}
 use Rattle.standard.specs.Arithmetic.{_>>_, _<<_, low, shl, add, sub, mult-r, abs, norm, peak, within}
 use Rattle.standard.specs.Tables.{_at_, neg, B, MIC, LARc-widths}
 use Rattle.standard.specs.Preprocessing.{downscaled}
@@ -22,8 +29,9 @@ use Rattle.standard.specs.Rpe.{exponent}
 use Rattle.standard.specs.Coder.{Coder, analysis, sub-coded}
 use Rattle.standard.specs.House.{fit}
 use Rattle.law_arithmetic.specs.Within.{word, word-is, within-is}
-use Rattle.law_arithmetic.specs.Clip.{minus-clip, minus-fits}
+use Rattle.law_arithmetic.specs.Clip.{minus-clip, minus-fits, abs-clip}
 use Rattle.law_arithmetic.specs.Shift.{keep-fits}
+use Rattle.law_arithmetic.specs.Div.{div-turn, div-shifts}
 use Rattle.law_lengths.specs.Subframes.{grid-length, sub-coded-lag, sub-coded-pulses}
 use Rattle.law_fields.specs.Ratios.{ratio-fits}
 use Rattle.law_fields.specs.Amplitudes.{peak-in, peak-up, xmaxc-fits}
@@ -32,11 +40,11 @@ use Rattle.lpc_autocorrelation.specs.Scale.{scaled-by, rescaled-exact, rescaled
 use Rattle.lpc_autocorrelation.specs.Bounds.{ACF-exact}
 use Rattle.long_search.specs.Bounds.{scal-range, power-in, gain-exact}
 use Rattle.rpe_quantise.specs.Shifts.{exp-up, pulses-up}
-use Rattle.rpe_inverse.specs.Shifts.{twice, half-up}
 use Rattle.law_limits.specs.Signals.{memory, s, scale, small, sums, part, history, lag, L-max, L-pow, e, x, xM, exp}
 use Rattle.law_limits.specs.Words.{Carried, s-length, small-length, s-words, history-words, history-length}
 use Rattle.law_limits.specs.Sizes.{small-sizes}
-use Rattle.law_limits.specs.Exact.{Exact, ExactBy, sop-up, long-up, size-up, code-up, B-up, ratio-up, small-up, pulse-up}
+use Rattle.law_limits.specs.Exact.{Exact, ExactBy, sop-up, long-up, size-up, code-up, B-up, ratio-up}
+use Rattle.law_limits.specs.Inverse.{InverseShifts, inverse-shifts}
 
 -- the left shifts of a frame: they lose nothing, except for the one in `loses`
 pub record FrameShifts (c : Coder) (sop : List ℤ) : Type 0 where
@@ -58,6 +66,9 @@ pub record FrameShifts (c : Coder) (sop : List ℤ) : Type 0 where
       → shl w16 (small c sop at k) (scale c sop) ≡ neg 32768
   -- 4.2.5: the normalisation, which is made where the first sum is above 0
   pub normalisation : (k : ℕ) → k < 9 → ltZ (pos 0) (sums c sop at 0) ≡ true → ExactBy w32 (sums c sop at k) (norm (sums c sop at 0))
+  -- 4.2.5: div << 1 and L_num << 1, in iteration k of div( abs( P[1] ), P[0] ), whatever P[1] and a P[0] above 0 are
+  pub division : (P0 P1 : ℤ) → ltZ (pos 0) P0 ≡ true → (k : ℕ) → k < 15
+      → let t = steps (div-turn P0) k 0 (pos 0, abs P1) in Exact w16 (t .0) 1 × Exact w32 (t .1) 1
   -- 4.2.6: (temp − 26112) << 2
   pub areas : (i : ℕ) → let temp = abs (r (sums c sop) at i) in ltZ temp (pos 31130) ≡ false → Exact w16 (sub temp (pos 26112)) 2
   -- 4.2.8: (LARc + MIC) << 10
@@ -79,17 +90,10 @@ pub record SubShifts (dp d : List ℤ) : Type 0 where
   pub S : ltZ (pos 0) (L-max dp d) ≡ true → ltZ (L-max dp d) (L-pow dp d) ≡ true → ExactBy w32 (L-pow dp d) (norm (L-pow dp d))
   -- 4.2.15: exp << 3
   pub amplitude : Exact w16 (pos (exponent (peak (xM dp d)))) 3
-  -- 4.2.15: exp << 3 and mant << 1, in the computation of exponent and mantissa, which `amplitude` defines without a shift
-  pub exponent : (exp : ℕ) → exp ≤ 6 → Exact w16 (pos exp) 3
-  pub mantissa : (mant : ℕ) → mant ≤ 7 → Exact w16 (pos mant) 1
-  -- 4.2.15: xM << temp1; so the right shift by temp2, which is the same count, in 4.2.16 is never a left one
+  -- 4.2.15: xM << temp1
   pub pulses : (k : ℕ) → k < 13 → ExactBy w16 (xM dp d at k) (sub (pos 6) (exp dp d))
-  -- 4.2.16: xMc << 1
-  pub doubling : (k : ℕ) → k < 13 → Exact w16 (sub-coded dp d .codes .xMc at k) 1
-  -- 4.2.16: temp << 12
-  pub raising : (k : ℕ) → k < 13 → Exact w16 (sub (sub-coded dp d .codes .xMc at k << 1) (pos 7)) 12
-  -- 4.2.16: 1 << (temp2 − 1); at exponent 6 it is a right shift
-  pub rounding : leZ (exp dp d) (pos 5) ≡ true → ExactBy w16 (pos 1) (sub (sub (pos 6) (exp dp d)) (pos 1))
+  -- 4.2.15 and 4.2.16: those of its codes
+  pub inverse : InverseShifts (sub-coded dp d .codes)
 
 -- ---- a frame
 
@@ -135,6 +139,7 @@ module _ (c : Coder) (sop : List ℤ) (l : length sop ≡ 160) (w : every word s
         normalisation = λ k h g.
             by w32 (sums c sop at k) (norm (sums c sop at 0)) (norm-above (sums c sop at 0))
             (ACF-exact (small c sop) (omega (arith, small-length c sop)) (small-sizes c sop) k h g);
+        division = λ P0 P1. div-shifts (abs P1) P0 (omega (zar, abs-clip P1)) (omega (zar, abs-clip P1));
         areas = λ i. size-up (r (sums c sop) at i);
         codes = λ i h. code-up i (analysis c sop .LARc at i) h (code-fits c sop i h);
         bases = B-up;
@@ -174,16 +179,10 @@ module _ (dp d : List ℤ) (v : every word dp ≡ true) (n : length dp ≡ 120) 
             let (m, _, p) = gain-exact (L-max dp d) (L-pow dp d) g h power-fits in
             record { count = m .shifts; is = m .is; exact = p };
         amplitude = exp-up (peak (xM dp d));
-        exponent = λ m h. small-up m 3 (omega arith);
-        mantissa = λ m h. small-up m 1 (omega arith);
         pulses = λ k h.
             let (m, i, p) = pulses-up (xM dp d) (λ k _. pulse-word dp d k) in
             record { count = m; is = i; exact = p k (omega (arith, grid-length (natAbs (sub-coded dp d .codes .Mc)) (x dp d))) };
-        doubling = λ k h. twice (sub-coded dp d .codes .xMc at k) (pulse-code dp d k h);
-        raising = λ k h. pulse-up (sub-coded dp d .codes .xMc at k) (pulse-code dp d k h);
-        rounding = λ h.
-            let (m, i, p) = half-up (sub-coded dp d .codes .xmaxc) (xmaxc-fits (peak (xM dp d)) (peak-in (xM dp d))) h in
-            record { count = m; is = i; exact = p };
+        inverse = inverse-shifts (sub-coded dp d .codes) (xmaxc-fits (peak (xM dp d)) (peak-in (xM dp d))) (pulse-code dp d);
       }
 
 -- ---- all of them
