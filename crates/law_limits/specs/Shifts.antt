@@ -187,8 +187,11 @@ module _ (dp d : List ℤ) (v : every word dp ≡ true) (n : length dp ≡ 120) 
 
 -- ---- all of them
 
--- from any state of the code, sound or not, and for each sub-frame from the history and the part of d that it starts from
-pub left-shifts : (c : Coder) (sop : List ℤ) → Carried c → length sop ≡ 160 → every word sop ≡ true
-    → FrameShifts c sop × ((i : ℕ) → i < 4 → SubShifts (history c sop i) (part c sop i))
+-- of a frame, and of each of its sub-frames from the history and the part of d that it starts from
+abbrev pub LeftShifts : Coder → List ℤ → Type 0
+LeftShifts c sop = FrameShifts c sop × ((i : ℕ) → i < 4 → SubShifts (history c sop i) (part c sop i))
+
+-- from any state of the code, sound or not
+pub left-shifts : (c : Coder) (sop : List ℤ) → Carried c → length sop ≡ 160 → every word sop ≡ true → LeftShifts c sop
 left-shifts c sop h l w =
     (frame-shifts c sop l w, λ i k. sub-shifts (history c sop i) (part c sop i) (history-words c sop h i) (history-length c sop h i))

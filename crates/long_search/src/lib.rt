@@ -59,7 +59,7 @@ fn weighed(scal: i16, d: &[i16]) -> [i16; 40]
 
 // Each element of a slice is a word. The search has to know this before it adds the results of two calls. Reading the
 // elements proves it, and the compiler removes the loop.
-fn each_a_word(s: &[i16])
+pub fn each_a_word(s: &[i16])
     ensures { λ _. ⌜ every word (now (s .entry)) ≡ true ⌝ }
 {
     for k in 0..s.len() {
