@@ -59,7 +59,7 @@ after t (encodes-alaw _ _ a left) = sent t a left
 after t (decodes _ _ a _) = heard t a
 after t (decodes-alaw _ _ a _) = heard t a
 
--- this much is true of every call: it keeps its promise; and samples are words, by their type
+-- this much is true of every call: it keeps its promise; and samples are words, by their type (`limits` promises this of any samples)
 unfoldable pub Made : Ends → Call → Type 0
 Made t (encodes samples codewords a left) = Encodes (t .encoder) samples codewords a left × (every word samples ≡ true)
 Made t (encodes-alaw octets codewords a left) = Encodes (t .encoder) (alaw-samples octets) codewords a left

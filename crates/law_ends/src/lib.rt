@@ -1,5 +1,5 @@
 // The three demands (house rules, 'What counts as shown'): demands 1 and 2 for each call, demand 3 over any sequence of
-// calls of both ends. And `limits`, the only code: it has no effect, and its promise is a law of all states and samples.
+// calls of both ends. And `limits`, the only code: it has no effect, its promise is a law of all states and samples.
 use encoder::Encoder;
 ghost use mathlib.Core.Path.{_≡_};
 ghost use mathlib.Core.Bool.{true};

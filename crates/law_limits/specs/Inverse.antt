@@ -68,7 +68,8 @@ all-mantissas = refl
 
 -- for each of them
 exp-up : (code : ℤ) → fit 6 code ≡ true → Exact w16 (exp-of code) 3
-exp-up (pos c) h = tab-each (λ c. exp-of (pos c) << 3) (λ c. exp-of (pos c) *ℤ pos 8) 64 0 all-exponents c (omega arith) (fit-is 6 (pos c) h .0)
+exp-up (pos c) h =
+    tab-each (λ c. exp-of (pos c) << 3) (λ c. exp-of (pos c) *ℤ pos 8) 64 0 all-exponents c (omega arith) (fit-is 6 (pos c) h .0)
 exp-up (negsuc c) h = absurd (omega (arith, fit-is 6 (negsuc c) h))
 
 mant-up : (code : ℤ) → fit 6 code ≡ true → (k : ℕ) → k < 3 → Exact w16 (mant-of code k) 1

@@ -1,5 +1,5 @@
--- House rules, 'Left shifts': no left shift of 4.3 loses bits, whatever codewords are received. `ReadShifts` has all of them: the doubling of
--- 4.3.6 is a sum, by add.
+-- House rules, 'Left shifts': no left shift of 4.3 loses bits, whatever codewords are received. `ReadShifts` has all of them; the doubling
+-- of 4.3.6 is a sum, by add.
 use Prim.Native.Nat.{ℕ, _+_, _<_}
 use mathlib.Core.Path.{_≡_, refl}
 use mathlib.Core.Bool.{true}

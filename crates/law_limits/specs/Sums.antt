@@ -1,6 +1,6 @@
 -- House rules, 'Six sums', over a whole frame: the sums (a) to (f) never saturate, from any sound state.
 use Prim.Native.Nat.{ℕ, _-_, _*_, _<_, _≤_}
-use mathlib.Core.Path.{_≡_, ap, _∙_}
+use mathlib.Core.Path.{_≡_, refl, ap, _∙_}
 use mathlib.Core.Bool.{true}
 use mathlib.Core.List.{List, map, zipWith, foldl}
 use native.Mathlib.Omega.{arith}
@@ -13,7 +13,7 @@ use Rattle.math_lists.specs.Scan.{run}
 use Rattle.math_lists.specs.Every.{every, every-at, every-drop, every-take}
 use Rattle.standard.specs.Arithmetic.{_>>_, low, up, within, shr, sub, mult-r, L-add, L-sub, L-mult, L-sum, L-squares}
 use Rattle.standard.specs.Tables.{_at_, neg, H}
-use Rattle.standard.specs.Preprocessing.{downscaled, Offset, offset}
+use Rattle.standard.specs.Preprocessing.{downscaled, Offset, recursive, offset}
 use Rattle.standard.specs.LongTerm.{back, scal, correlations, L-power}
 use Rattle.standard.specs.Rpe.{grid}
 use Rattle.standard.specs.Coder.{Coder, coded}
@@ -59,6 +59,13 @@ pub record OffsetSums (m : Offset) (so : ℤ) : Type 0 where
   pub rounding : let L-z2 = offset m so .0 .L-z2 in L-add L-z2 (pos 16384) ≡ L-z2 +ℤ pos 16384
   -- sof, the low word of this >> 15
   pub sof : let high = L-add (offset m so .0 .L-z2) (pos 16384) >> 15 in low high ≡ high
+
+-- the definition's step is made of these operations
+pub offset-is : (m : Offset) (so : ℤ) → let L-s2 = up w32 (sub so (m .z1)) 15 in
+    (offset m so .0 .L-z2 ≡ L-add (L-mult (msp (m .L-z2)) (pos 32735) >> 1) (L-add L-s2 (mult-r (lsp (m .L-z2)) (pos 32735))))
+    × (offset m so .1 ≡ low (L-add (offset m so .0 .L-z2) (pos 16384) >> 15))
+unfolding offset recursive
+offset-is m so = (refl, refl)
 
 -- a sum of products that the standard makes by L_mult and L_add, from a start: neither meets a limit, so the sum is that of twice the plain
 -- products; and it is within the bound, as is each partial sum
