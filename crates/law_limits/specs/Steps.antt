@@ -5,7 +5,7 @@ use mathlib.Core.Bool.{true}
 use mathlib.Core.List.{List, [], _∷_, map, zipWith, foldl}
 use native.Mathlib.Nat.{mul-le-mul-left}
 use native.Mathlib.Omega.{arith}
-use lib.IntN.{ℤ, pos, _+ℤ_, _*ℤ_, natAbs}
+use lib.IntN.{ℤ, _+ℤ_, _*ℤ_, natAbs}
 use lib.ListN.{length, take}
 use borrow.Author.Tests.{leb-true}
 use Rattle.math_integers.specs.Halves.{abs-is, apart}
@@ -19,7 +19,7 @@ use Rattle.law_arithmetic.specs.Sum.{Bounded, none, _also_}
 use Rattle.op_sums.specs.Room.{at-most}
 
 -- the first n of terms that each have a bound of their own, from a start within C
-partial : {xs : List ℤ} {bs : List ℕ} → Bounded xs bs → (C : ℕ) (s : ℤ) → natAbs s ≤ C → (n : ℕ)
+pub partial : {xs : List ℤ} {bs : List ℕ} → Bounded xs bs → (C : ℕ) (s : ℤ) → natAbs s ≤ C → (n : ℕ)
     → natAbs (foldl _+ℤ_ s (take n xs)) ≤ C + sum bs
 partial t C s h zero = omega arith
 partial none C s h (suc n) = omega arith
@@ -44,11 +44,11 @@ doubles A B (x ∷ a) (y ∷ b) e f m =
     ap₂ _∷_ (L-mult-small x y (omega arith)) (doubles A B a b h l m)
 
 -- a bound of twice a product, where the first factor is at most A in size
-abbrev bound : ℕ → ℤ → ℤ → ℕ
+abbrev pub bound : ℕ → ℤ → ℤ → ℕ
 bound A x y = 2 * (A * natAbs y)
 
 -- it bounds each term
-products : (A : ℕ) (a b : List ℤ) → every (at-most A) a ≡ true → Bounded (zipWith double a b) (zipWith (bound A) a b)
+pub products : (A : ℕ) (a b : List ℤ) → every (at-most A) a ≡ true → Bounded (zipWith double a b) (zipWith (bound A) a b)
 unfolding zipWith
 products A [] b e = none
 products A (x ∷ a) [] e = none
@@ -60,7 +60,7 @@ products A (x ∷ a) (y ∷ b) e =
     p also products A a b h
 
 -- the bound of all terms together, where the second factors are at most B in size
-alike : (A B : ℕ) (a b : List ℤ) → every (at-most B) b ≡ true → sum (zipWith (bound A) a b) ≤ length a * (2 * (A * B))
+pub alike : (A B : ℕ) (a b : List ℤ) → every (at-most B) b ≡ true → sum (zipWith (bound A) a b) ≤ length a * (2 * (A * B))
 unfolding zipWith
 alike A B [] b e = omega arith
 alike A B (x ∷ a) [] e = omega arith
@@ -76,21 +76,11 @@ others A (x ∷ a) [] = omega arith
 others A (x ∷ a) (y ∷ b) = omega (arith, others A a b)
 
 -- in sum (f) these are the taps of the weighting filter
-taps : sum (map (λ y. 2 * (32768 * natAbs y)) H) ≡ 1625161728
+pub taps-most : (a : List ℤ) → sum (zipWith (bound 32768) a H) ≤ 1625161728
 unfolding H
-taps = refl
+taps-most a = others 32768 a H
 
+-- which are small
 pub H-sizes : every (at-most 8192) H ≡ true
 unfolding H every
 H-sizes = refl
-
--- sums (b) to (e)
-pub partial-in : (A B : ℕ) {most : ℕ} (a b : List ℤ)
-    → every (at-most A) a ≡ true → every (at-most B) b ≡ true → length a * (2 * (A * B)) ≤ most
-    → (n : ℕ) → natAbs (foldl _+ℤ_ (pos 0) (take n (zipWith double a b))) ≤ most
-partial-in A B {most} a b e f m n = omega (arith, partial (products A a b e) 0 (pos 0) (omega arith) n, alike A B a b f)
-
--- sum (f)
-pub partial-taps : (a : List ℤ) → every (at-most 32768) a ≡ true → (n : ℕ)
-    → natAbs (foldl _+ℤ_ (pos 8192) (take n (zipWith double a H))) ≤ 1625169920
-partial-taps a e n = omega (arith, partial (products 32768 a H e) 8192 (pos 8192) (omega arith) n, others 32768 a H, taps)

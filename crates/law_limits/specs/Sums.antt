@@ -1,24 +1,27 @@
 -- House rules, 'Six sums', over a whole frame: the sums (a) to (f) never saturate, from any sound state.
-use Prim.Native.Nat.{ℕ, _-_, _*_, _<_, _≤_}
+use Prim.Native.Nat.{ℕ, _+_, _-_, _*_, _<_, _≤_}
 use mathlib.Core.Path.{_≡_, refl, ap, _∙_}
 use mathlib.Core.Bool.{true}
 use mathlib.Core.List.{List, map, zipWith, foldl}
 use native.Mathlib.Omega.{arith}
 use lib.IntN.{ℤ, pos, _+ℤ_, _-ℤ_, _*ℤ_, natAbs}
 use lib.ListN.{length, take, drop, length-map, length-drop}
-use lib.Seq.{take-all}
 use lib.Signed.{leZ}
 use mir.Syntax.{w16, w32}
 use Rattle.math_lists.specs.Scan.{run}
+use Rattle.math_lists.specs.Cut.{sum as total}
+use Rattle.math_lists.specs.Tab.{tab-at, tab-at-zero}
 use Rattle.math_lists.specs.Every.{every, every-at, every-drop, every-take}
 use Rattle.standard.specs.Arithmetic.{_>>_, low, up, within, shr, sub, mult-r, L-add, L-sub, L-mult, L-sum, L-squares}
 use Rattle.standard.specs.Tables.{_at_, neg, H}
 use Rattle.standard.specs.Preprocessing.{downscaled, Offset, recursive, offset}
+use Rattle.standard.specs.Lpc.{L-ACF}
 use Rattle.standard.specs.LongTerm.{back, scal, correlations, L-power}
 use Rattle.standard.specs.Rpe.{grid}
 use Rattle.standard.specs.Coder.{Coder, coded}
 use Rattle.standard.specs.House.{home-coder, sound-coder}
 use Rattle.law_arithmetic.specs.Within.{word, within-is}
+use Rattle.law_arithmetic.specs.Sum.{bounded-sum}
 use Rattle.law_lengths.specs.Analysis.{downscaled-length}
 use Rattle.law_lengths.specs.Subframes.{Lag, back-length, grid-length, weighted-length}
 use Rattle.law_soundness.specs.Ranges.{so-range}
@@ -26,15 +29,14 @@ use Rattle.law_soundness.specs.Decay.{msp, lsp, msp-plain, left-plain, lsp-plai
 use Rattle.law_soundness.specs.Offset.{sound-offset, plain-offset, L-z2-in, L-z2-long, L-s2-long, s1-plain, rounding-plain, sof-plain, offset-sound}
 use Rattle.law_soundness.specs.States.{downscaled-range, offset-all-sound, offset-all-in, offset-all-plain, coded-from-home}
 use Rattle.op_sums.specs.Room.{at-most}
-use Rattle.lpc_autocorrelation.specs.Bounds.{L-ACF-steps}
-use Rattle.long_search.specs.Bounds.{correlation-steps, power-in, power-steps}
-use Rattle.rpe_weighting.specs.Bounds.{energy-in, energy-steps, filter-steps}
+use Rattle.long_search.specs.Bounds.{power-in}
+use Rattle.rpe_weighting.specs.Bounds.{energy-in}
 use Rattle.rpe_weighting.specs.Filter.{around}
 use Rattle.law_limits.specs.Signals.{kept, memory, sof, small, sums, part, history, wt, e, x}
-use Rattle.law_limits.specs.Words.{Carried, small-length, part-words, part-length, e-words, e-length, x-words, history-words, history-length}
+use Rattle.law_limits.specs.Words.{Carried, small-length, part-words, part-length, x-words, history-words, history-length}
 use Rattle.law_limits.specs.Words.{home-carried, coded-all-carried}
 use Rattle.law_limits.specs.Sizes.{down-sizes, word-sizes, small-sizes, wt-sizes, back-words, grids-words, around-words}
-use Rattle.law_limits.specs.Steps.{double, doubles, H-sizes, partial-in, partial-taps}
+use Rattle.law_limits.specs.Steps.{double, doubles, bound, products, partial, alike, taps-most, H-sizes}
 
 -- 4.2.2 on a sample so: no operation meets a limit, and no low word loses a bit. `FrameShifts` has its two left shifts
 pub record OffsetSums (m : Offset) (so : ℤ) : Type 0 where
@@ -124,25 +126,29 @@ offset-sums m so h k =
       sof = sof-plain (offset m so .0 .L-z2) next;
     }
 
--- a sum whose factors are at most A and B in size
-inside : (A B : ℕ) {most : ℕ} {sum start : ℤ} {a b : List ℤ} → A * B ≤ 1073741823
-    → every (at-most A) a ≡ true → every (at-most B) b ≡ true → sum ≡ foldl _+ℤ_ start (zipWith L-mult a b)
-    → ((n : ℕ) → natAbs (foldl _+ℤ_ start (take n (zipWith double a b))) ≤ most) → Inside most sum start a b
-inside A B {most} {sum} {start} {a} {b} m e f p steps =
+-- a sum whose factors are at most A and B in size, and whose terms together leave room
+inside : (A B most : ℕ) (start : ℤ) (a b : List ℤ) → A * B ≤ 1073741823 → most ≤ 2147483647
+    → every (at-most A) a ≡ true → every (at-most B) b ≡ true → natAbs start + total (zipWith (bound A) a b) ≤ most
+    → Inside most (L-sum start a b) start a b
+unfolding L-sum
+inside A B most start a b m n e f room =
     let t = doubles A B a b e f m in
-    let plain : sum ≡ foldl _+ℤ_ start (zipWith double a b) = p ∙ ap (foldl _+ℤ_ start) t in
-    let n = length (zipWith double a b) in
-    record { terms = t; plain = plain; size = rw plain (rw (take-all n (zipWith double a b) (omega arith)) at (steps n)); steps = steps }
+    let (p, size) = bounded-sum w32 (products A a b e) (natAbs start) start (omega arith) (omega arith) in
+    record {
+      terms = t;
+      plain = ap (foldl L-add start) t ∙ p;
+      size = rw t (omega arith);
+      steps = λ n. omega (arith, partial (products A a b e) (natAbs start) start (omega arith) n);
+    }
 
 -- from 0 on, with one bound for all terms
-inside-all : (A B : ℕ) {most : ℕ} {sum : ℤ} {a b : List ℤ} → A * B ≤ 1073741823 → length a * (2 * (A * B)) ≤ most
-    → every (at-most A) a ≡ true → every (at-most B) b ≡ true → sum ≡ foldl _+ℤ_ (pos 0) (zipWith L-mult a b)
-    → Inside most sum (pos 0) a b
-inside-all A B {a = a} {b} m l e f p = inside A B m e f p (partial-in A B a b e f l)
+inside-all : (A B most : ℕ) (a b : List ℤ) → A * B ≤ 1073741823 → most ≤ 2147483647
+    → every (at-most A) a ≡ true → every (at-most B) b ≡ true → length a * (2 * (A * B)) ≤ most → Inside most (L-sum (pos 0) a b) (pos 0) a b
+inside-all A B most a b m n e f l = inside A B most (pos 0) a b m n e f (omega (arith, alike A B a b f))
 
 -- the sums (a) and (b) of a frame, from a sound state
 pub frame-sums : (c : Coder) (sop : List ℤ) → sound-coder c ≡ true → length sop ≡ 160 → every word sop ≡ true → FrameSums c sop
-unfolding sound-coder
+unfolding sound-coder L-ACF
 frame-sums c sop sound l w =
     record {
       operations = λ k h.
@@ -151,8 +157,11 @@ frame-sums c sop sound l w =
       offset = λ k. offset-all-plain (kept c) (take k sop) sound (every-take word k sop w);
       output = offset-all-in (kept c) sop sound w;
       autocorrelation = λ k h.
-          inside-all 2048 2048 (omega arith) (omega (arith, n, length-drop k (small c sop)))
-          (every-drop _ k (small c sop) (small-sizes c sop)) (small-sizes c sop) (L-ACF-steps (small c sop) n (small-sizes c sop) k h);
+          let small = small c sop in
+          let sizes = small-sizes c sop in
+          rw (tab-at-zero (λ k. L-sum (pos 0) (drop k small) small) 9 k (pos 0) h)
+          (inside-all 2048 2048 _ (drop k small) small (omega arith) (omega arith) (every-drop _ k small sizes) sizes
+          (omega (arith, n, length-drop k small)));
     }
   where
     n : length (small c sop) ≡ 160
@@ -162,28 +171,31 @@ frame-sums c sop sound l w =
 
 -- the sums (c) to (f) of a sub-frame, for any words as its 120 dp and its 40 d
 pub sub-sums : (dp d : List ℤ) → every word dp ≡ true → length dp ≡ 120 → every word d ≡ true → length d ≡ 40 → SubSums dp d
+unfolding correlations L-power L-squares
 sub-sums dp d v n w l =
     record {
       lag = λ lag h.
-          inside-all 512 32768 (omega arith) (omega (arith, length-map d (λ x. shr w16 x (scal d))))
-          (wt-sizes d w) (word-sizes (back lag dp) (back-words lag dp v)) (correlation-steps d dp w v l n lag h);
+          let from : 40 + (lag - 40) ≡ lag = omega (arith, h .least) in
+          rw (tab-at (λ lag. L-sum (pos 0) (wt d) (back lag dp)) 40 81 (lag - 40) (pos 0) (omega (arith, h .most)), from)
+          (inside-all 512 32768 _ (wt d) (back lag dp) (omega arith) (omega arith) (wt-sizes d w)
+          (word-sizes (back lag dp) (back-words lag dp v)) (omega (arith, length-map d (λ x. shr w16 x (scal d)))));
       power = λ lag h.
           let small = down-sizes 3 (back lag dp) (omega arith) (back-words lag dp v) in
-          inside-all 4096 4096 (omega arith) (omega (arith, length-map (back lag dp) (λ y. y >> 3), back-length lag dp h n))
-          small small (power-steps dp v n lag h);
+          inside-all 4096 4096 _ _ _ (omega arith) (omega arith) small small
+          (omega (arith, length-map (back lag dp) (λ y. y >> 3), back-length lag dp h n));
       power-above = λ lag h. within-is (pos 0) (pos 1342177280) (L-power lag dp) (power-in dp v n lag h) .0;
       energy = λ m h.
           let xM = grid m (x dp d) in
           let small = down-sizes 2 xM (omega arith) (grids-words dp d m) in
-          inside-all 8192 8192 (omega arith) (omega (arith, length-map xM (λ y. y >> 2), grid-length m (x dp d)))
-          small small (energy-steps m (x dp d) h (weighted-length (e dp d)) (x-words dp d));
+          inside-all 8192 8192 _ _ _ (omega arith) (omega arith) small small
+          (omega (arith, length-map xM (λ y. y >> 2), grid-length m (x dp d)));
       energy-above = λ m h.
           within-is (pos 0) (pos 1744830464) (L-squares 2 (grid m (x dp d)))
           (energy-in m (x dp d) h (weighted-length (e dp d)) (x-words dp d)) .0;
       weighting = λ k h.
-          let words = word-sizes _ (every-drop word k (around (e dp d)) (around-words dp d)) in
-          inside 32768 8192 (omega arith) words H-sizes (filter-steps (e dp d) k (e-length dp d n l) (e-words dp d) h)
-          (partial-taps _ words);
+          let wt = drop k (around (e dp d)) in
+          inside 32768 8192 _ (pos 8192) wt H (omega arith) (omega arith)
+          (word-sizes wt (every-drop word k (around (e dp d)) (around-words dp d))) H-sizes (omega (arith, taps-most wt));
     }
 
 -- ---- all six

@@ -3,7 +3,6 @@ use Prim.Native.Nat.{ℕ, _<_}
 use mathlib.Core.Path.{_≡_, refl, _∙_}
 use mathlib.Core.Bool.{Bool, true}
 use mathlib.Core.List.{List, [], _∷_, zip, zipWith}
-use native.Mathlib.Omega.{arith}
 use lib.IntN.{ℤ, pos}
 use lib.ListN.{length, drop, replicate}
 use lib.Signed.{ltZ}
@@ -28,7 +27,7 @@ use Rattle.law_arithmetic.specs.Clip.{plus-fits, minus-fits}
 use Rattle.law_arithmetic.specs.Shift.{keep-fits, shl-word}
 use Rattle.law_arithmetic.specs.Product.{mult-r-fits}
 use Rattle.law_lengths.specs.Analysis.{downscaled-length, scaled-length}
-use Rattle.law_lengths.specs.Subframes.{dpp-length, residual-length, sub-coded-lag, sub-steps-length}
+use Rattle.law_lengths.specs.Subframes.{sub-steps-length}
 use Rattle.law_lengths.specs.Frames.{CoderSizes, home-coder-sizes, parts-sized, coded-sizes}
 use Rattle.pre_processing.specs.Promise.{emphasis-words}
 use Rattle.law_limits.specs.Signals.{kept, sof, s, scale, small, parts, part, history, lag, gain, e, x}
@@ -145,11 +144,6 @@ module _ (dp d : List ℤ) where
   pub e-words : every word (e dp d) ≡ true
   unfolding residual
   e-words = zip-words sub (minus-fits w16) d (dpp (lag dp d) (gain dp d) dp)
-
-  -- and are 40
-  pub e-length : length dp ≡ 120 → length d ≡ 40 → length (e dp d) ≡ 40
-  e-length n l =
-      omega (arith, residual-length d (dpp (lag dp d) (gain dp d) dp), dpp-length (lag dp d) (gain dp d) dp (sub-coded-lag dp d) n)
 
   -- x are words
   pub x-words : every word (x dp d) ≡ true
