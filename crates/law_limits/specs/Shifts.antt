@@ -5,6 +5,8 @@
 --   the << 1 in L_mult (4.1): it is twice the product, and `OffsetSums` and `Inside` (Sums) show that it never meets a limit;
 --   xmax >> temp (4.2.15): its count is exp + 5, a natural number (`exponent`);
 --   the doublings of 4.2.8 and 4.2.13: they are sums, by add and L_add.
+-- exp << 3 and mant << 1 of 4.2.15, which the definition `amplitude` says without a shift, are in `InverseShifts` as the standard's loop
+-- has them.
 use Prim.Native.Nat.{ℕ, _^_, _<_}
 use mathlib.Core.Path.{_≡_}
 use mathlib.Core.Bool.{true, false}

@@ -143,7 +143,8 @@ inside A B most start a b m n e f room =
 
 -- from 0 on, with one bound for all terms
 inside-all : (A B most : ℕ) (a b : List ℤ) → A * B ≤ 1073741823 → most ≤ 2147483647
-    → every (at-most A) a ≡ true → every (at-most B) b ≡ true → length a * (2 * (A * B)) ≤ most → Inside most (L-sum (pos 0) a b) (pos 0) a b
+    → every (at-most A) a ≡ true → every (at-most B) b ≡ true → length a * (2 * (A * B)) ≤ most
+    → Inside most (L-sum (pos 0) a b) (pos 0) a b
 inside-all A B most a b m n e f l = inside A B most (pos 0) a b m n e f (omega (arith, alike A B a b f))
 
 -- the sums (a) and (b) of a frame, from a sound state
