@@ -7,8 +7,6 @@ use native.Mathlib.Omega.{arith}
 use lib.IntN.{ℤ, pos, negsuc, _*ℤ_}
 use lib.Signed.{ltZ, leZ}
 use mir.Syntax.{w16}
-use Rattle.math_integers.specs.Halves.{zar, apart}
-use Rattle.math_integers.specs.Sums.{minus-is}
 use Rattle.math_lists.specs.Steps.{steps}
 use Rattle.math_lists.specs.Tab.{tab}
 use Rattle.math_lists.specs.For.{tab-each}
@@ -18,10 +16,8 @@ use Rattle.standard.specs.Frame.{Subframe}
 use Rattle.standard.specs.Rpe.{amplitude}
 use Rattle.standard.specs.House.{fit}
 use Rattle.standard.specs.Opened.{opened}
-use Rattle.law_arithmetic.specs.Clip.{minus-clip}
 use Rattle.law_fields.specs.Fit.{fit-is}
 use Rattle.law_loops.specs.Quantization.{mant-turn, normalize, exp-and-mant}
-use Rattle.rpe_quantise.specs.Doubling.{exp-range}
 use Rattle.rpe_inverse.specs.Shifts.{twice, half-up}
 use Rattle.law_limits.specs.Exact.{Exact, ExactBy, pulse-up}
 
@@ -57,37 +53,32 @@ pub record InverseShifts (f : Subframe) : Type 0 where
   -- 4.2.16: the right shift by temp2 is never a left one
   pub lowering : leZ (pos 0) (sub (pos 6) (amplitude (f .xmaxc) .exp)) ≡ true
 
--- those of 4.2.15, computed for the 64 codes
-all-exponents : tab (λ c. exp-of (pos c) << 3) 0 64 ≡ tab (λ c. exp-of (pos c) *ℤ pos 8) 0 64
+-- what is computed of the 64 codes is true of each
+of-code : {A : Type 0} (f g : ℤ → A) → tab (λ c. f (pos c)) 0 64 ≡ tab (λ c. g (pos c)) 0 64 → (code : ℤ) → fit 6 code ≡ true → f code ≡ g code
+of-code f g e (pos c) h = tab-each (λ c. f (pos c)) (λ c. g (pos c)) 64 0 e c (omega arith) (fit-is 6 (pos c) h .0)
+of-code f g e (negsuc c) h = absurd (omega (arith, fit-is 6 (negsuc c) h))
+
+exponents : (code : ℤ) → fit 6 code ≡ true → Exact w16 (exp-of code) 3
 unfolding opened
-all-exponents = refl
+exponents = of-code (λ c. exp-of c << 3) (λ c. exp-of c *ℤ pos 8) refl
 
-all-mantissas : tab (λ c. tab (λ k. mant-of (pos c) k << 1) 0 3) 0 64 ≡ tab (λ c. tab (λ k. mant-of (pos c) k *ℤ pos 2) 0 3) 0 64
+mantissas : (code : ℤ) → fit 6 code ≡ true → tab (λ k. mant-of code k << 1) 0 3 ≡ tab (λ k. mant-of code k *ℤ pos 2) 0 3
 unfolding opened steps mant-turn
-all-mantissas = refl
+mantissas = of-code (λ c. tab (λ k. mant-of c k << 1) 0 3) (λ c. tab (λ k. mant-of c k *ℤ pos 2) 0 3) refl
 
--- for each of them
-exp-up : (code : ℤ) → fit 6 code ≡ true → Exact w16 (exp-of code) 3
-exp-up (pos c) h =
-    tab-each (λ c. exp-of (pos c) << 3) (λ c. exp-of (pos c) *ℤ pos 8) 64 0 all-exponents c (omega arith) (fit-is 6 (pos c) h .0)
-exp-up (negsuc c) h = absurd (omega (arith, fit-is 6 (negsuc c) h))
-
-mant-up : (code : ℤ) → fit 6 code ≡ true → (k : ℕ) → k < 3 → Exact w16 (mant-of code k) 1
-mant-up (pos c) h k l =
-    let row = tab-each (λ c. tab (λ k. mant-of (pos c) k << 1) 0 3) (λ c. tab (λ k. mant-of (pos c) k *ℤ pos 2) 0 3) 64 0 all-mantissas c
-    (omega arith) (fit-is 6 (pos c) h .0) in
-    tab-each (λ k. mant-of (pos c) k << 1) (λ k. mant-of (pos c) k *ℤ pos 2) 3 0 row k (omega arith) l
-mant-up (negsuc c) h k l = absurd (omega (arith, fit-is 6 (negsuc c) h))
+counts : (code : ℤ) → fit 6 code ≡ true → leZ (pos 0) (sub (pos 6) (amplitude code .exp)) ≡ true
+unfolding opened
+counts = of-code (λ c. leZ (pos 0) (sub (pos 6) (amplitude c .exp))) (λ c. true) refl
 
 -- all of them, of codes that fit their fields
 pub inverse-shifts : (f : Subframe) → fit 6 (f .xmaxc) ≡ true → ((k : ℕ) → k < 13 → fit 3 (f .xMc at k) ≡ true) → InverseShifts f
 inverse-shifts f h g =
-    let exp = amplitude (f .xmaxc) .exp in
     record {
-      exponent = exp-up (f .xmaxc) h;
-      mantissa = mant-up (f .xmaxc) h;
+      exponent = exponents (f .xmaxc) h;
+      mantissa = λ k l.
+          tab-each (λ k. mant-of (f .xmaxc) k << 1) (λ k. mant-of (f .xmaxc) k *ℤ pos 2) 3 0 (mantissas (f .xmaxc) h) k (omega arith) l;
       doubling = λ k l. twice (f .xMc at k) (g k l);
       raising = λ k l. pulse-up (f .xMc at k) (g k l);
       rounding = λ l. let (m, i, p) = half-up (f .xmaxc) h l in record { count = m; is = i; exact = p };
-      lowering = omega (zar, exp-range (f .xmaxc) h, minus-clip w16 (pos 6) exp, minus-is (pos 6) exp, apart (sub (pos 6) exp));
+      lowering = counts (f .xmaxc) h;
     }
