@@ -54,10 +54,12 @@ pub record InverseShifts (f : Subframe) : Type 0 where
   pub lowering : leZ (pos 0) (sub (pos 6) (amplitude (f .xmaxc) .exp)) ≡ true
 
 -- what is computed of the 64 codes is true of each
-of-code : {A : Type 0} (f g : ℤ → A) → tab (λ c. f (pos c)) 0 64 ≡ tab (λ c. g (pos c)) 0 64 → (code : ℤ) → fit 6 code ≡ true → f code ≡ g code
+of-code : {A : Type 0} (f g : ℤ → A) → tab (λ c. f (pos c)) 0 64 ≡ tab (λ c. g (pos c)) 0 64
+    → (code : ℤ) → fit 6 code ≡ true → f code ≡ g code
 of-code f g e (pos c) h = tab-each (λ c. f (pos c)) (λ c. g (pos c)) 64 0 e c (omega arith) (fit-is 6 (pos c) h .0)
 of-code f g e (negsuc c) h = absurd (omega (arith, fit-is 6 (negsuc c) h))
 
+-- 4.2.15 and the count of 4.2.16
 exponents : (code : ℤ) → fit 6 code ≡ true → Exact w16 (exp-of code) 3
 unfolding opened
 exponents = of-code (λ c. exp-of c << 3) (λ c. exp-of c *ℤ pos 8) refl
