@@ -153,8 +153,3 @@ module _ (c : Coder) (s : List ℤ) where
   unfolding analysis
   analysis-u-length h k =
       analysed-all-length (c .u) _ k (every-pairs (sized 8) _ _ (coefficients-sized (c .LARpp) _ h (ratios-length _)))
-
-  -- dp is as it was
-  pub analysis-dp : analysis c s .next .dp ≡ c .dp
-  unfolding analysis
-  analysis-dp = refl

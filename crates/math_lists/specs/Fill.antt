@@ -1,5 +1,5 @@
 -- For a loop that fills a slice from the front. Its invariant is `l ≡ filled i t d`: t is the target, d what stood there before.
-use mathlib.Core.Path.{_≡_, refl}
+use mathlib.Core.Path.{_≡_}
 use mathlib.Core.List.{List, _++_, append-nil}
 use Prim.Native.Nat.{ℕ, suc, _+_, _-_, _≤_, _<_}
 use native.Mathlib.Numerals.{add-one}
@@ -11,10 +11,6 @@ module _ {A : Type 0} where
   -- the first i elements of t, then what d has from i on
   abbrev pub filled : ℕ → List A → List A → List A
   filled i t d = take i t ++ drop i d
-
-  -- before the loop: nothing is filled yet
-  pub fill-start : (t l : List A) → l ≡ filled 0 t l
-  fill-start t l = refl
 
   module _ (t d : List A) (i : ℕ) {l : List A} (h : l ≡ filled i t d) where
     -- an iteration: t's element is stored at index i

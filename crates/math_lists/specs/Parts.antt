@@ -88,7 +88,3 @@ module _ {A : Type 0} (xs y₀ y₁ y₂ y₃ y₄ : List A) (k₀ k₁ k₂ k�
         rw (← h₀, ← h₁, ← h₂, ← h₃, ← h₄)
         (lends-all y₀ (drop (length y₀) xs) (y₁ ∷ y₂ ∷ y₃ ∷ y₄ ∷ []) (simp (length-drop, length-append) (omega arith))
         ∙ simp (append-assoc, append-nil))
-
-    -- and the list keeps its length
-    pub five-length : length lent-five ≡ length xs
-    five-length = rw five (simp length-append (omega arith))

@@ -4,8 +4,7 @@ use mathlib.Core.Path.{_≡_, refl, sym, ap, _∙_}
 use mathlib.Core.List.{List, [], _∷_, _++_, map, zipWith}
 use Prim.Native.Nat.{ℕ, zero, suc, _+_, _≤_, _<_, min}
 use native.Mathlib.Omega.{arith}
-use lib.ListN.{length, getD, take, drop, replicate, length-map, List·getD-map}
-use lib.Seq.{ext-getD}
+use lib.ListN.{length, getD, take, drop, replicate}
 
 module _ {A : Type 0} where
   -- f at each of n indices from i on; a constant table whose entries are these computes to it
@@ -36,12 +35,6 @@ module _ {A B : Type 0} (g : A → B) where
   map-at [] k d z h = absurd (omega arith)
   map-at (x ∷ xs) zero d z h = refl
   map-at (x ∷ xs) (suc k) d z h = map-at xs k d z (omega arith)
-
-  -- g at each index of a list is the map
-  pub tab-map : (xs : List A) (d : A) → tab (λ k. g (getD xs k d)) 0 (length xs) ≡ map g xs
-  tab-map xs d =
-      let n = tab-length (λ (k : ℕ). g (getD xs k d)) 0 (length xs) in
-      ext-getD (g d) _ _ (n ∙ sym (length-map xs g)) (λ k h. tab-at-zero _ _ k (g d) (omega arith) ∙ sym (List·getD-map g xs k d))
 
 module _ {A B C : Type 0} (f : A → B → C) where
   -- there are as many pairs as the shorter list has elements

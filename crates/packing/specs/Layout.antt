@@ -5,7 +5,7 @@ use mathlib.Core.List.{List, _++_}
 use Prim.Native.Nat.{ℕ, _+_}
 use native.Mathlib.Omega.{arith}
 use lib.ListN.{length, take, drop, length-append, length-drop, take-append-drop}
-use lib.Seq.{take-append-seam, drop-append-seam, drop-at}
+use lib.Seq.{drop-append-seam, drop-at}
 use Rattle.math_lists.specs.Every.{every-append, every-drop}
 use Rattle.math_lists.specs.Cut.{sum}
 use Rattle.packing.specs.Bits.{is-bit, are-bits}
@@ -41,17 +41,9 @@ module _ {X Y : Type 0} (k : Code X) (m : Code Y) (ws vs front back : List ℕ) 
       pub laid-bits : joined m vs (laid xs) ≡ whole xs
       laid-bits = joined-whole m vs (whole xs) whole-length whole-bits
 
-      -- the front is before the fields
-      pub laid-front : take (length front) (joined m vs (laid xs)) ≡ front
-      laid-front = rw (laid-bits, take-append-seam)
-
       -- and the back after them
       pub laid-back : drop (sum ws) (rest (laid xs)) ≡ back
       laid-back = rw (laid-bits, drop-append-seam, drop-at (joined k ws xs) back (sum ws) (joined-length k ws xs h))
-
-      -- each cell fits
-      pub laid-fit : all-fit m vs (laid xs) ≡ true
-      laid-fit = parted-fit m vs (whole xs) (omega (arith, whole-length)) whole-bits
 
       -- fields that fit are taken out as they were laid
       pub taken-laid : all-fit k ws xs ≡ true → taken (laid xs) ≡ xs

@@ -17,7 +17,7 @@ use Rattle.standard.specs.Packed.{binary, frame-bits, packed, byte-bits, unpack
 use Rattle.standard.specs.House.{fit, fits}
 use Rattle.packing.specs.Bits.{are-bits, Order, low-first}
 use Rattle.packing.specs.Fields.{Code, joined, all-fit, parted-count}
-use Rattle.packing.specs.Layout.{laid, taken, laid-back, laid-fit, taken-laid, back-length, taken-fit, laid-taken}
+use Rattle.packing.specs.Layout.{laid, taken, laid-back, taken-laid, back-length, taken-fit, laid-taken}
 
 -- numbers, in any order of the bits
 abbrev pub number : Order → Code ℕ
@@ -117,13 +117,6 @@ module _ (c : List ℤ) (h : length c ≡ 76) where
   fields : length c ≡ length widths
   fields = h ∙ sym field-count
 
-  -- each byte is below 256
-  pub packed-bytes : every (λ x. ltb x 256) (packed c) ≡ true
-  unfolding every
-  packed-bytes =
-      rw (← bytes-fit (packed c) (packed-length c), packed-is c)
-      (laid-fit low-codeword bytes widths eights [] zeros room refl refl c fields)
-
   -- the spare bits are 0
   pub packed-spare : every (eqb 0) (spare (packed c)) ≡ true
   unfolding every
@@ -162,7 +155,3 @@ module _ (b : List ℕ) (h : length b ≡ 33) where
       let z = rw spare-length at (every-only (eqb 0) 0 (λ x t. sym (eqb-true 0 x t)) (spare b) s) in
       rw (packed-is (unpacked b), unpacked-is b h)
       (laid-taken low-codeword bytes widths eights [] zeros room b h f refl (rw (← spare-is b h) z))
-
--- frames that fit and are packed alike are equal
-pub packed-equal : (c d : List ℤ) → length c ≡ 76 → length d ≡ 76 → fits c ≡ true → fits d ≡ true → packed c ≡ packed d → c ≡ d
-packed-equal c d h g e f p = cc (unpack-packed c h e, unpack-packed d g f)

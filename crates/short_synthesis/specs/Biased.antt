@@ -1,6 +1,6 @@
 -- Cells kept with 32768 added (the bias): one test then says of a sum that it is a word. What such sums and products stand for.
 use Prim.Native.Nat.{ℕ, _+_, _*_, _≤_}
-use mathlib.Core.Path.{_≡_, refl, sym, ap, _∙_}
+use mathlib.Core.Path.{_≡_, refl, ap, _∙_}
 use mathlib.Core.Bool.{Bool, true, false, _&&_}
 use native.Mathlib.Nat.{mul-add}
 use native.Mathlib.Omega.{arith}
@@ -11,11 +11,11 @@ use mir.Val.{SFits}
 use Rattle.math_integers.specs.Halves.{P, N, zar, know, apart, mem}
 use Rattle.math_integers.specs.Sums.{add-is, minus-is, mul-is, mul-in, scale-is, shr-is, neg-is}
 use Rattle.math_integers.specs.Ranges.{rounded-fits, back}
-use Rattle.standard.specs.Arithmetic.{within, _>>_, add, sub, mult-r}
+use Rattle.standard.specs.Arithmetic.{_>>_, add, sub, mult-r}
 use Rattle.standard.specs.Tables.{neg}
 use Rattle.law_arithmetic.specs.Clip.{plus-fits}
 use Rattle.law_arithmetic.specs.Product.{mult-r-plain}
-use Rattle.law_arithmetic.specs.Within.{range-is, range-yes, word, word-is, word-yes}
+use Rattle.law_arithmetic.specs.Within.{range-is, word, word-is, word-yes}
 use Rattle.short_synthesis.specs.declared.Line.{Line}
 use Rattle.short_synthesis.specs.Lattice.{factor, factor-is, word-back, widened, Each, Held}
 

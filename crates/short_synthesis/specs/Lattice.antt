@@ -1,6 +1,6 @@
 -- The lattice on eight named cells: what its functions ask and promise, and that plain sums which are words are those of 4.3.4.
 use mathlib.Core.Path.{_≡_, refl, sym, ap, _∙_}
-use mathlib.Core.Bool.{Bool, true, false, _&&_, and-assoc, and-true}
+use mathlib.Core.Bool.{Bool, true}
 use mathlib.Core.List.{List, [], _∷_, zip, zipWith}
 use lib.IntN.{ℤ, pos, _+ℤ_, _-ℤ_}
 use lib.ListN.{length}
@@ -49,14 +49,6 @@ eight-is =
 
 -- ---- a test of the eight
 
--- one more test, where those before it hold
-pub and-yes : (a b r : Bool) → a ≡ true → r ≡ b → r ≡ (a && b)
-and-yes a b r h e = rw (h, e)
-
--- and where one of them does not
-pub and-no : (a b r : Bool) → a ≡ false → r ≡ a → r ≡ (a && b)
-and-no a b r h e = rw (e, h)
-
 module _ (p : ℤ → Bool) (l : Line) where
   -- where all pass, each does
   pub each-yes : every p (cells l) ≡ true → Each p l
@@ -75,12 +67,6 @@ module _ (p : ℤ → Bool) (l : Line) where
   pub each-all : Each p l → every p (cells l) ≡ true
   unfolding every
   each-all h = rw (h .v0, h .v1, h .v2, h .v3, h .v4, h .v5, h .v6, h .v7)
-
-  -- the test of all, as the code makes it: one after the other
-  pub all-left : (((((((p (l .v0) && p (l .v1)) && p (l .v2)) && p (l .v3)) && p (l .v4)) && p (l .v5)) && p (l .v6)) && p (l .v7))
-      ≡ every p (cells l)
-  unfolding every
-  all-left = simp (and-assoc, and-true)
 
 -- ---- a number that goes through a local
 
@@ -135,15 +121,6 @@ pub factors-held : (l : Line) → Each factor l → Held l
 factors-held = held factor factor-is
 
 -- ---- one section, of what went through locals: mr, mv and ms are what they give back of r, v and sri
-
-module _ {r v s mr mv ms x m : ℤ} (er : mr ≡ r) (ev : mv ≡ v) (es : ms ≡ s) (em : m ≡ x) where
-  -- a plain difference
-  pub lowered-is : x ≡ ms -ℤ mult-r mr mv → m ≡ s -ℤ mult-r r v
-  lowered-is e = em ∙ rw (er, ev, es) at e
-
-  -- a plain sum
-  pub raised-is : x ≡ mv +ℤ mult-r mr ms → m ≡ v +ℤ mult-r r s
-  raised-is e = em ∙ rw (er, ev, es) at e
 
 module _ {r v s mr mv ms o : ℤ} (er : mr ≡ r) (ev : mv ≡ v) (es : ms ≡ s) (eo : o ≡ sub ms (mult-r mr mv)) where
   -- a difference that saturates is a word

@@ -7,7 +7,7 @@ use native.Mathlib.Omega.{arith}
 use lib.IntN.{ℤ, pos, _+ℤ_}
 use lib.ListN.{length, take, drop}
 use mir.Syntax.{w32}
-use mir.Val.{SFits, toZ}
+use mir.Val.{toZ}
 use borrow.Author.Needs.{needs}
 use Rattle.math_integers.specs.Halves.{mem}
 use Rattle.math_integers.specs.Ranges.{back, res}

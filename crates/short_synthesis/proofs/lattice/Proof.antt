@@ -1,5 +1,5 @@
 -- One sample: where the plain sums fit they are the cells of 4.3.4; where one does not, the slow way gives these.
-use mathlib.Core.Path.{_≡_, sym, ap, _∙_}
+use mathlib.Core.Path.{_≡_, ap, _∙_}
 use borrow.Author.Needs.{needs}
 use Rattle.math_integers.specs.Ranges.{back}
 use Rattle.standard.specs.Decoder.{synthesised}

@@ -8,7 +8,7 @@ use Rattle.math_integers.specs.Halves.{mem}
 use Rattle.math_integers.specs.Ranges.{back}
 use Rattle.short_synthesis.specs.declared.Line.{Line}
 use Rattle.short_synthesis.specs.Lattice.{factor, Held, factors-held, Sections, sections-are}
-use Rattle.short_synthesis.specs.Biased.{low, lifted, base, Passed, offset, offset-fits, lifted-back, lifted-held, low-out, low-above}
+use Rattle.short_synthesis.specs.Biased.{low, base, offset, offset-fits, lifted-back, lifted-held, low-out, low-above}
 use Rattle.short_synthesis.proofs.plain.Statement.{statement}
 use Rattle.short_synthesis.proofs.plain.Tie as tie
 
