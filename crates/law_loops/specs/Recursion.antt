@@ -102,9 +102,9 @@ abbrev padded : ℕ → List ℤ → List ℤ
 padded k m = m ++ replicate (k - length m) (pos 0)
 
 -- "FOR i = n to 8", where n is m + 1
-zeros : (m : ℕ) → m < 8 → (r : List ℤ) → length r ≡ 8 → steps r-zero (9 - suc m) (suc m) r ≡ take m r ++ padded (8 - m) []
+zero-rest : (m : ℕ) → m < 8 → (r : List ℤ) → length r ≡ 8 → steps r-zero (9 - suc m) (suc m) r ≡ take m r ++ padded (8 - m) []
 unfolding steps r-zero tab
-zeros m h =
+zero-rest m h =
     by-entries (λ r. steps r-zero (9 - suc m) (suc m) r ≡ take m r ++ padded (8 - m) []) (pos 0) 8
     (λ f.
     tab-each (λ m. steps r-zero (9 - suc m) (suc m) (tab f 0 8)) (λ m. take m (tab f 0 8) ++ padded (8 - m) []) 8 0 refl m (omega arith) h)
@@ -141,7 +141,7 @@ r-loop-is (suc k) m P K r e p q l =
     let h : suc m - 1 ≡ m = omega arith in
     let later = r-loop-is k (suc m) (t .0) (t .1) (set r m rn) (omega arith) a b (length-set r m rn ∙ l) in
     decides (ltZ (P at 0) (abs (P at 1))) _ _ [] _ (λ x. take m r ++ padded (suc k) x)
-    (λ _. rw f at (zeros m (omega arith) r l))
+    (λ _. rw f at (zero-rest m (omega arith) r l))
     (λ _.
     rw h (exits k (suc m) (t .0) (t .1) (set r m rn) (omega arith)
     ∙ (later ∙ stored k m r rn (omega arith) (turn-measures k m rn P K e p q))))
@@ -208,5 +208,5 @@ pub reflection-is : (L-acf P K r : List ℤ) → length L-acf ≡ 9 → length P
     → reflection-loop L-acf P K r ≡ reflections L-acf
 unfolding reflection-loop reflections schur
 reflection-is L-acf P K r a p q l =
-    decides (is-zero (L-acf at 0)) _ _ [] _ (padded 8) (λ _. zeros 0 (omega arith) r l)
+    decides (is-zero (L-acf at 0)) _ _ [] _ (padded 8) (λ _. zero-rest 0 (omega arith) r l)
     (λ _. recursion-is (ACF L-acf) P K r (ACF-length L-acf ∙ a) p q l)

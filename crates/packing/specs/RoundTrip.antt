@@ -79,13 +79,13 @@ bytes = number low-first
 abbrev pub eights : List ℕ
 eights = replicate 33 8
 
-abbrev pub zeros : List ℕ
-zeros = replicate 4 0
+abbrev pub spare-zeros : List ℕ
+spare-zeros = replicate 4 0
 
 room : 0 + (sum widths + 4) ≡ 264
 room = rw bit-count
 
-packed-is : (c : List ℤ) → packed c ≡ laid low-codeword bytes widths eights [] zeros c
+packed-is : (c : List ℤ) → packed c ≡ laid low-codeword bytes widths eights [] spare-zeros c
 unfolding packed frame-bits
 packed-is c = refl
 
@@ -94,7 +94,7 @@ pub byte-bits-is : (b : List ℕ) → length b ≡ 33 → byte-bits b ≡ joined
 unfolding byte-bits
 byte-bits-is b h = rw (zip-replicate binary 8 33 b h)
 
-unpacked-is : (b : List ℕ) → length b ≡ 33 → unpacked b ≡ taken low-codeword bytes widths eights [] zeros b
+unpacked-is : (b : List ℕ) → length b ≡ 33 → unpacked b ≡ taken low-codeword bytes widths eights [] spare-zeros b
 unfolding unpacked
 unpacked-is b h = rw (byte-bits-is b h)
 
@@ -121,7 +121,7 @@ module _ (c : List ℤ) (h : length c ≡ 76) where
   pub packed-spare : every (eqb 0) (spare (packed c)) ≡ true
   unfolding every
   packed-spare =
-      let z = laid-back low-codeword bytes widths eights [] zeros room refl refl c fields in
+      let z = laid-back low-codeword bytes widths eights [] spare-zeros room refl refl c fields in
       rw (spare-is (packed c) (packed-length c), packed-is c, z)
 
   -- codewords that fit are unpacked as they were
@@ -129,7 +129,7 @@ module _ (c : List ℤ) (h : length c ≡ 76) where
   unfolding every fits
   unpack-packed e =
       rw (unpacked-is (packed c) (packed-length c), packed-is c)
-      (taken-laid low-codeword bytes widths eights [] zeros room refl refl c fields e)
+      (taken-laid low-codeword bytes widths eights [] spare-zeros room refl refl c fields e)
 
 -- ---- unpacking
 
@@ -142,11 +142,11 @@ module _ (b : List ℕ) (h : length b ≡ 33) where
   -- each codeword fits
   pub unpacked-fits : fits (unpacked b) ≡ true
   unfolding fits
-  unpacked-fits = rw (unpacked-is b h) (taken-fit low-codeword bytes widths eights [] zeros room b h)
+  unpacked-fits = rw (unpacked-is b h) (taken-fit low-codeword bytes widths eights [] spare-zeros room b h)
 
   -- four bits are spare
   pub spare-length : length (spare b) ≡ 4
-  spare-length = rw (spare-is b h) (back-length low-codeword bytes widths eights [] zeros room b h)
+  spare-length = rw (spare-is b h) (back-length low-codeword bytes widths eights [] spare-zeros room b h)
 
   -- bytes with spare zeros are packed as they were
   pub pack-unpacked : every (λ x. ltb x 256) b ≡ true → every (eqb 0) (spare b) ≡ true → packed (unpacked b) ≡ b
@@ -154,4 +154,4 @@ module _ (b : List ℕ) (h : length b ≡ 33) where
       let f = rw (← bytes-fit b h) at e in
       let z = rw spare-length at (every-only (eqb 0) 0 (λ x t. sym (eqb-true 0 x t)) (spare b) s) in
       rw (packed-is (unpacked b), unpacked-is b h)
-      (laid-taken low-codeword bytes widths eights [] zeros room b h f refl (rw (← spare-is b h) z))
+      (laid-taken low-codeword bytes widths eights [] spare-zeros room b h f refl (rw (← spare-is b h) z))

@@ -18,18 +18,18 @@ use Rattle.standard.specs.House.{fit, fits}
 use Rattle.law_fields.specs.Fit.{fit-is}
 use Rattle.frame_codewords.specs.Widths.{width-most}
 use Rattle.packing.specs.Waiting.{coming, Moving, moving-in, moving-out, moving-end, moving-last}
-use Rattle.packing.specs.RoundTrip.{field-count, bit-count, eights, zeros, byte-bits-is}
+use Rattle.packing.specs.RoundTrip.{field-count, bit-count, eights, spare-zeros, byte-bits-is}
 
 -- the invariant of pack's loop over the codewords c
 abbrev pub Packing : List ℤ → ℕ → ℕ → ℕ → ℕ → List ℕ → Type 0
-Packing c = Moving natAbs (λ n. n) zeros eights widths c
+Packing c = Moving natAbs (λ n. n) spare-zeros eights widths c
 
 -- the invariant of unpack's loop over the bytes b
 abbrev pub Unpacking : List ℕ → ℕ → ℕ → ℕ → ℕ → List ℤ → Type 0
 Unpacking b = Moving (λ n. n) pos [] widths eights b
 
 -- what the loops give in the end is the packed frame, and the unpacked one
-packing-whole : (c : List ℤ) → coming natAbs (λ n. n) zeros eights widths c 0 0 ≡ packed c
+packing-whole : (c : List ℤ) → coming natAbs (λ n. n) spare-zeros eights widths c 0 0 ≡ packed c
 unfolding packed frame-bits binary
 packing-whole c = refl
 
@@ -71,13 +71,13 @@ module _ {c : List ℤ} {i k h n : ℕ} {out : List ℕ} (m : Packing c i k h n 
       let q = field-count in
       let z = word-below c i l f p in
       let s : y < 2 ^ w = rw (g, e) (omega (arith, abs-is (getD c i (pos 0)))) in
-      moving-in natAbs (λ n. n) zeros eights widths c m (pos 0) (omega arith) (omega arith) e g s t
+      moving-in natAbs (λ n. n) spare-zeros eights widths c m (pos 0) (omega arith) (omega arith) e g s t
 
   -- eight of them are a byte
   pub pack-out : length out ≡ 33 → 8 ≤ h → Packing c i (k + 1) (h - 8) (n / 256) (set out k (n % 256))
   pack-out l p =
       let r = pack-room in
-      moving-out natAbs (λ n. n) zeros eights widths c m r (omega arith) (sym (getD-replicate 33 k 8 0 r)) p refl refl
+      moving-out natAbs (λ n. n) spare-zeros eights widths c m r (omega arith) (sym (getD-replicate 33 k 8 0 r)) p refl refl
 
   -- the last four are the last byte
   pub pack-end : length out ≡ 33 → 76 ≤ i → h < 8 → set out 32 n ≡ packed c
@@ -86,7 +86,7 @@ module _ {c : List ℤ} {i k h n : ℕ} {out : List ℕ} (m : Packing c i k h n 
       let z : sum (drop i widths) ≡ 0 = rw (drop-of-length-le widths {i = i} (omega arith)) in
       let e : k ≡ 32 = omega (arith, pack-count) in
       let g : h ≡ 4 = omega (arith, pack-count) in
-      rw e at (moving-last natAbs (λ n. n) zeros eights widths c m 4 (omega arith) (omega arith) l (rw (e, g)) refl) ∙ packing-whole c
+      rw e at (moving-last natAbs (λ n. n) spare-zeros eights widths c m 4 (omega arith) (omega arith) l (rw (e, g)) refl) ∙ packing-whole c
 
 -- ---- unpack's turn: i bytes are read, k codewords written, and h bits wait in n
 

@@ -42,7 +42,7 @@ start b = heard b .before .before
 
 -- the loop, from its test
 abbrev turn : tie.After-abs Inv-loop μ-loop → tie.At-loop Inv-loop μ-loop
-turn c = c .before .before .before .before .before
+turn c = let read : tie.After-p Inv-loop μ-loop = c .before .before .before in read .before .before
 
 -- ---- before the loop
 

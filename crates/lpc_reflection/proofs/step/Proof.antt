@@ -33,7 +33,7 @@ abbrev μ-loop : tie.MeasureT-loop
 
 -- the start, from where the new P[0] is stored
 abbrev start : tie.After-add Inv-loop μ-loop → tie.Start Inv-loop μ-loop
-start a = a .before .before .before .before .before .before
+start a = let first : tie.After-add-arg Inv-loop μ-loop = a .before .before .before in first .before .before .before
 
 loop-again : tie.Need-loop-again Inv-loop μ-loop
 loop-again c =

@@ -46,27 +46,31 @@ above-requires c κs =
     let u = more-bits _ 7 _ (l .loop .inv .3 .held) (omega arith) in
     (omega (zar, know f), omega (arith, c .before .field-width .ensures, width-most (l .loop .i)), omega (zar, know f))
 
+-- the iteration, from there
+abbrev turn : tie.After-above Inv-loop μ-loop → tie.At-loop Inv-loop μ-loop
+turn c = c .before .before .before .before
+
 -- the invariant with the codeword put above the bits that wait
 taken : (c : tie.After-above Inv-loop μ-loop)
-    → let l = c .before .before .before .before in
+    → let l = turn c in
     let have = l .loop .have + c .before .before .field-width .result in
     Packing (l .before .before .args .codewords .now) (l .loop .i + 1) (l .loop .at) have (c .above .result) (l .loop .bytes)
 taken c =
-    let l = c .before .before .before .before in
+    let l = turn c in
     let s = l .before .before in
     let f : SFits w16 (getD (s .args .codewords .now) (l .loop .i) (pos 0)) = search needs in
     let w = c .before .before .field-width .ensures in
     pack-in (l .loop .inv .3) (s .pre .0) (s .pre .2) (omega arith) w (ap natAbs (back f)) (c .above .ensures)
 
 -- at most 14 bits wait then
-few : (c : tie.After-above Inv-loop μ-loop) → c .before .before .before .before .loop .have + c .before .before .field-width .result ≤ 14
-few c = omega (arith, width-most (c .before .before .before .before .loop .i), c .before .before .field-width .ensures)
+few : (c : tie.After-above Inv-loop μ-loop) → turn c .loop .have + c .before .before .field-width .result ≤ 14
+few c = omega (arith, width-most (turn c .loop .i), c .before .before .field-width .ensures)
 
 loop-again : tie.Need-loop-again Inv-loop μ-loop
 loop-again c =
     let t = taken (c .before) in
     let s = few (c .before) in
-    let l = c .before .before .before .before .before .loop .inv .2 in
+    let l = turn (c .before) .loop .inv .2 in
     ⊎-elim
     (λ w. rw (w .1, w .2, w .3, w .4) (omega arith, omega arith, simp length-set l, pack-out t l (w .0 .taken)))
     (λ w. rw (w .1, w .2, w .3, w .4) (omega arith, omega arith, l, t))

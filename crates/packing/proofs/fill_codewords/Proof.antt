@@ -25,24 +25,28 @@ Inv-loop bytes codewords₀ waiting₀ have₀ at₀ i₀ codewords waiting have
 abbrev μ-loop : tie.MeasureT-loop
 μ-loop bytes codewords₀ waiting₀ have₀ at₀ i₀ codewords waiting have at i = 76 - i
 
--- where the bits that wait are too few for the codeword, a byte is left to read
-left : (c : tie.Then1 Inv-loop μ-loop) → c .before .before .before .loop .at < 33
-left c = unpack-room (c .before .before .before .loop .inv .3) (omega arith) (rw (c .before .field-width .ensures) at (c .if1 .taken))
+-- the iteration, from where the bits that wait are too few for the codeword
+abbrev turn : tie.Then1 Inv-loop μ-loop → tie.At-loop Inv-loop μ-loop
+turn c = c .before .before .before
+
+-- there a byte is left to read
+left : (c : tie.Then1 Inv-loop μ-loop) → turn c .loop .at < 33
+left c = unpack-room (turn c .loop .inv .3) (omega arith) (rw (c .before .field-width .ensures) at (c .if1 .taken))
 
 above-requires : tie.Need-above-requires Inv-loop μ-loop
 above-requires c κs =
-    let l = c .before .before .before .before .loop in
+    let l = turn (c .before) .loop in
     let u = more-bits _ 7 _ (l .inv .3 .held) (omega arith) in
     let y = c .shared-slice-known2 .given (l .at) .fits in
     (omega arith, omega arith, omega arith)
 
 -- the invariant with that byte put above them
 refilled : (c : tie.After-above Inv-loop μ-loop)
-    → let l = c .before .before .before .before .before in
+    → let l = turn (c .before .before) in
     let bytes = l .before .before .args .bytes .now in
     Unpacking bytes (l .loop .at + 1) (l .loop .i) (l .loop .have + 8) (c .above .result) (l .loop .codewords)
 refilled c =
-    let l = c .before .before .before .before .before in
+    let l = turn (c .before .before) in
     let y = c .before .shared-slice-known2 .given (l .loop .at) .fits in
     unpack-in (l .loop .inv .3) (l .before .before .pre .0) (left (c .before .before)) refl y (c .above .ensures)
 

@@ -31,7 +31,8 @@ fill-bytes-requires c κs =
 returns-3 : tie.Need-returns-3
 returns-3 c =
     let f = c .before .before in
-    let (l, m, e) = fill-bytes-requires (f .before) (f .before .before .before .before .before .before .before .κs) in
+    let right : tie.Else1 = f .before .before .before .before in
+    let (l, m, e) = fill-bytes-requires (f .before) (right .before .before .before .κs) in
     pack-0 _ _ l m e (f .fill-bytes .ensures)
 
 pub pack-spec : {M : Type 1} → statement M

@@ -25,8 +25,9 @@ returns-2 c =
 returns-3 : tie.Need-returns-3
 returns-3 c =
     let t = c .before .before .before in
-    let (l, m) = lengths (t .before .before) in
-    let b = t .before .before .before .before .before .args .bytes .now in
+    let right = t .before .before in
+    let (l, m) = lengths right in
+    let b = right .before .before .before .args .bytes .now in
     unpack-0 _ _ l m (spare-none b m (omega arith)) (c .before .fill-codewords .ensures)
 
 pub unpack-spec : {M : Type 1} → statement M

@@ -9,7 +9,8 @@ use Rattle.pcm_alaw.proofs.placed.Statement.{statement}
 use Rattle.pcm_alaw.proofs.placed.Tie as tie
 
 -- what the last call gives
-is-placed : (c : tie.After-least6) → let start = c .before .before .before .before .before .before in
+is-placed : (c : tie.After-least6) → let three : tie.After-least3 = c .before .before .before in
+    let start = three .before .before .before in
     (c .least6 .result ≡ placed (start .args .n)) × (c .least6 .result < 128)
 unfolding lines
 is-placed c =
