@@ -75,9 +75,9 @@ step-number (stopped n) = leb 1 n && leb n 8
 step-number complete = true
 
 -- every ending of the recursion passes it
-pub ending-number : (L-acf : List ℤ) → step-number (ending L-acf) ≡ true
+pub ending-step : (L-acf : List ℤ) → step-number (ending L-acf) ≡ true
 unfolding ending step-number
-ending-number L-acf =
+ending-step L-acf =
     let n = length (schur L-acf) in
     let short : eqb n 8 ≡ false → n < 8 = λ e. let d : ¬ (n ≡ 8) = eqb-false n 8 e in omega (arith, schur-length L-acf) in
     by-cond (λ e. step-number e ≡ true) (is-zero (L-acf at 0)) (λ _. refl)
@@ -105,16 +105,17 @@ pub coefficients-length : (old new : List ℤ) → length (coefficients old new)
 unfolding coefficients stretches stretch flatten
 coefficients-length old new = refl
 
--- and eight for each sample, where there are eight old ratios and eight new ones
+-- a stretch has eight, where there are eight old ratios and eight new ones
+pub stretch-length : (LARp : ℤ → ℤ → ℤ) (old new : List ℤ) → length old ≡ 8 → length new ≡ 8 → length (map rp (zipWith LARp old new)) ≡ 8
+stretch-length LARp old new o n = simp (length-map, zip-length) (omega arith)
+
+-- so each sample has eight
 pub coefficients-sized : (old new : List ℤ) → length old ≡ 8 → length new ≡ 8 → every (sized 8) (coefficients old new) ≡ true
 unfolding coefficients stretch
 coefficients-sized old new o n = rw (every-flatten, every-map) (every-all _ each stretches)
   where
-    rps-length : (LARp : ℤ → ℤ → ℤ) → length (map rp (zipWith LARp old new)) ≡ 8
-    rps-length LARp = simp (length-map, zip-length) (omega arith)
-
     each : (t : ℕ × (ℤ → ℤ → ℤ)) → every (sized 8) (stretch old new t) ≡ true
-    each (k, LARp) = every-replicate (sized 8) k _ (sized-yes 8 (map rp (zipWith LARp old new)) (rps-length LARp))
+    each (k, LARp) = every-replicate (sized 8) k _ (sized-yes 8 (map rp (zipWith LARp old new)) (stretch-length LARp old new o n))
 
 -- ---- 4.2.10 short term analysis filtering
 

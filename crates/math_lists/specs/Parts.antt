@@ -1,5 +1,5 @@
 -- For a function that passes parts of one slice, one after the other, as buffers to functions that fill them.
-use mathlib.Core.Path.{_≡_, refl, _∙_}
+use mathlib.Core.Path.{_≡_, refl, ap, _∙_}
 use mathlib.Core.List.{List, [], _∷_, _++_, append-assoc, append-nil, flatten}
 use Prim.Native.Nat.{ℕ, _+_, _≤_}
 use native.Mathlib.Omega.{arith}
@@ -14,6 +14,16 @@ module _ {A : Type 0} where
   -- p stands first, and the part that was passed starts where p ends
   pub lent-next : (p q y : List A) (a k : ℕ) → length p ≡ a → put a k (p ++ q) y ≡ (p ++ y) ++ drop k q
   lent-next p q y a k h = rw (take-at p q a h, drop-at p q a h, append-assoc)
+
+  -- a part of n elements that was put first, and came back as t
+  module _ (n : ℕ) {y t : List A} (e : y ≡ t) (h : length t ≡ n) (rest : List A) where
+    -- is read there
+    pub front-back : take n (y ++ rest) ≡ t
+    front-back = take-at y rest n (ap length e ∙ h) ∙ e
+
+    -- so there is room for it
+    pub front-room : n ≤ length (y ++ rest)
+    front-room = omega (arith, length-append y rest, ap length e)
 
   -- each part is put where the one before ended, the first at a
   unfoldable pub lends : ℕ → List (List A) → List A → List A
@@ -70,9 +80,6 @@ module _ {A : Type 0} (xs y₀ y₁ y₂ : List A) (k₀ k₁ k₂ : ℕ) where
     four y₃ h₃ =
         rw (← h₀, ← h₁, ← h₂, ← h₃)
         (lends-all y₀ (drop (length y₀) xs) (y₁ ∷ y₂ ∷ y₃ ∷ []) (simp (length-drop, length-append) (omega arith)) ∙ simp append-nil)
-
-    pub four-length : (y₃ : List A) → length y₃ ≡ k₃ → length (lent-four y₃ k₃) ≡ length xs
-    four-length y₃ h₃ = rw (four y₃ h₃) (simp length-append (omega arith))
 
 module _ {A : Type 0} (xs y₀ y₁ y₂ y₃ y₄ : List A) (k₀ k₁ k₂ k₃ k₄ : ℕ) where
   -- what xs is after five parts of it, of k₀ to k₄ elements, were passed as buffers and came back as y₀ to y₄

@@ -6,16 +6,11 @@ use mathlib.Core.List.{List, _∷_, _++_, zipWith}
 use native.Mathlib.Omega.{arith}
 use lib.IntN.{ℤ, pos}
 use lib.ListN.{length, take, replicate, length-take}
-use lib.Signed.{leZ}
 use Rattle.math_lists.specs.Tab.{zip-length, zip-at}
 use Rattle.math_lists.specs.Every.{every, every-append, every-replicate}
 use Rattle.math_lists.specs.Parts.{lent-four, four}
 use Rattle.standard.specs.Arithmetic.{add, mult-r}
-use Rattle.standard.specs.Tables.{_at_, neg}
-
--- a coefficient that is not -32768
-abbrev pub not-least : ℤ → Bool
-not-least = leZ (neg 32767)
+use Rattle.standard.specs.Tables.{_at_}
 
 -- a section's coefficient at each sample of the four stretches
 unfoldable pub spread : ℤ → ℤ → ℤ → ℤ → List ℤ

@@ -12,14 +12,15 @@ ghost use Rattle.math_lists.specs.Scan.{run};
 ghost use Rattle.standard.specs.Arithmetic.{mult-r};
 ghost use Rattle.standard.specs.Tables.{_at_};
 ghost use Rattle.standard.specs.ShortTerm.{coefficients, analysed};
-ghost use Rattle.short_analysis.specs.Sections.{not-least, spread, own, further, saved, stage};
+ghost use Rattle.short_ratios.specs.Bounds.{factor};
+ghost use Rattle.short_analysis.specs.Sections.{spread, own, further, saved, stage};
 
-// mult_r by a coefficient. The coefficient is not -32768, so mult_r cannot saturate.
-fn term(rp: i16, x: i16) -> i16
-    requires { ⌜ not-least rp ≡ true ⌝ }
+// A coefficient's product as a word of 16 bits.
+fn product(rp: i16, x: i16) -> i16
+    requires { ⌜ factor rp ≡ true ⌝ }
     ensures { λ r. ⌜ r ≡ mult-r rp x ⌝ }
 {
-    ((rp as i32 * x as i32 + 16384) >> 15) as i16
+    short_ratios::term(rp as i32, x as i32) as i16
 }
 
 // One coefficient at each sample of a stretch.
@@ -54,7 +55,7 @@ fn own(i: usize, a: &[i16; 8], b: &[i16; 8], c: &[i16; 8], d: &[i16; 8], rp: &mu
 // at each sample, prev its cell.
 fn section(rp: &[i16], prev: &[i16], di: &mut [i16], sav: &mut [i16])
     requires { ⌜ ((length (now rp) ≡ 160) × (length (now prev) ≡ 160))
-        × ((length (now di) ≡ 160) × ((length (now sav) ≡ 160) × (every not-least (now rp) ≡ true))) ⌝ }
+        × ((length (now di) ≡ 160) × ((length (now sav) ≡ 160) × (every factor (now rp) ≡ true))) ⌝ }
     ensures di { λ _. ⌜ now (di .exit) ≡ further (now (rp .entry)) (now (prev .entry)) (now (di .entry)) ⌝ }
     ensures sav { λ _. ⌜ now (sav .exit) ≡ saved (now (rp .entry)) (now (prev .entry)) (now (di .entry)) ⌝ }
 {
@@ -62,9 +63,9 @@ fn section(rp: &[i16], prev: &[i16], di: &mut [i16], sav: &mut [i16])
         let r = rp[k];
         let p = prev[k];
         let d = di[k];
-        let out = op_words::add(d, term(r, p));
+        let out = op_words::add(d, product(r, p));
         di[k] = out;
-        sav[k] = op_words::add(p, term(r, d));
+        sav[k] = op_words::add(p, product(r, d));
     }
 }
 
@@ -74,7 +75,7 @@ fn section(rp: &[i16], prev: &[i16], di: &mut [i16], sav: &mut [i16])
 // cell, the last sav in p.
 fn stage(rp: &[i16], u: i16, p: &mut [i16], di: &mut [i16], q: &mut [i16]) -> i16
     requires { ⌜ ((length (now rp) ≡ 160) × (length (now p) ≡ 161))
-        × ((length (now di) ≡ 160) × ((length (now q) ≡ 161) × (every not-least (now rp) ≡ true))) ⌝ }
+        × ((length (now di) ≡ 160) × ((length (now q) ≡ 161) × (every factor (now rp) ≡ true))) ⌝ }
     ensures p { λ _. ⌜ now (p .exit) ≡ u ∷ drop 1 (now (p .entry)) ⌝ }
     ensures di { λ _. ⌜ now (di .exit)
         ≡ stage 159 (now (di .entry), drop 1 (now (p .entry))) (now (rp .entry), u) .0 .0 ⌝ }

@@ -4,10 +4,11 @@ use mathlib.Core.Path.{_≡_, refl, ap, _∙_}
 use mathlib.Core.List.{List, _++_, map, zipWith, flatten}
 use native.Mathlib.Omega.{arith}
 use lib.IntN.{ℤ, pos}
-use lib.ListN.{length, getD, replicate, length-map}
+use lib.ListN.{length, getD, replicate}
 use Rattle.math_lists.specs.Tab.{map-at, zip-at, zip-length}
 use Rattle.standard.specs.Tables.{_at_}
 use Rattle.standard.specs.ShortTerm.{stretches, rp, stretch, coefficients}
+use Rattle.law_lengths.specs.Analysis.{stretch-length}
 
 -- LARp[i] in stretch j, counted from 0; past the last stretch, the new ratio
 unfoldable pub LARp : ℕ → ℤ → ℤ → ℤ
@@ -29,7 +30,7 @@ rps j old new = map rp (zipWith (LARp j) old new)
 -- eight, where there are eight old ratios and eight new ones
 pub rps-length : (j : ℕ) (old new : List ℤ) → length old ≡ 8 → length new ≡ 8 → length (rps j old new) ≡ 8
 unfolding rps
-rps-length j old new o n = simp (length-map, zip-length) (omega arith)
+rps-length j = stretch-length (LARp j)
 
 -- what iteration k stores
 pub rps-at : (j : ℕ) (old new : List ℤ) (k : ℕ) → length old ≡ 8 → length new ≡ 8 → k < 8

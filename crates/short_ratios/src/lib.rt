@@ -1,10 +1,14 @@
-// 4.2.8, 4.2.9: the decoded ratios, their interpolation and the coefficients of both lattices.
+// 4.2.8, 4.2.9: the decoded ratios, their interpolation and the coefficients of both lattices; and a coefficient's
+// product, which both take.
 ghost use mathlib.Core.Path.{_≡_};
 ghost use mathlib.Core.Bool.{true};
 ghost use lib.IntN.{pos};
 ghost use lib.Signed.{leZ};
+ghost use Rattle.standard.specs.Arithmetic.{mult-r};
 ghost use Rattle.standard.specs.ShortTerm.{LARpp, ratios, from-ratio, rp};
 ghost use Rattle.short_ratios.specs.Stretches.{LARp, rps};
+ghost use Rattle.law_arithmetic.specs.Within.{word};
+ghost use Rattle.short_ratios.specs.Bounds.{factor};
 ghost use Rattle.short_ratios.specs.Least.{lesser};
 
 // 4.2.8: LARpp[i + 1].
@@ -86,4 +90,13 @@ pub fn coefficients(j: usize, old: [i16; 8], new: [i16; 8]) -> [i16; 8]
         rps[i] = rp(larp(j, old[i], new[i]));
     }
     rps
+}
+
+// 4.2.10, 4.3.4: mult_r of a coefficient and a word, both held in 32 bits. The coefficient is not -32768 (`rps-above`,
+// specs/Bounds), so mult_r cannot saturate.
+pub fn term(rp: i32, x: i32) -> i32
+    requires { ⌜ (factor rp ≡ true) × (word x ≡ true) ⌝ }
+    ensures { λ r. ⌜ r ≡ mult-r rp x ⌝ }
+{
+    (rp * x + 16384) >> 15
 }

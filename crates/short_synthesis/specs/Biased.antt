@@ -11,13 +11,14 @@ use mir.Val.{SFits}
 use Rattle.math_integers.specs.Halves.{P, N, zar, know, apart, mem}
 use Rattle.math_integers.specs.Sums.{add-is, minus-is, mul-is, mul-in, scale-is, shr-is, neg-is}
 use Rattle.math_integers.specs.Ranges.{rounded-fits, back}
-use Rattle.standard.specs.Arithmetic.{_>>_, add, sub, mult-r}
+use Rattle.standard.specs.Arithmetic.{_>>_, add, mult-r}
 use Rattle.standard.specs.Tables.{neg}
 use Rattle.law_arithmetic.specs.Clip.{plus-fits}
 use Rattle.law_arithmetic.specs.Product.{mult-r-plain}
 use Rattle.law_arithmetic.specs.Within.{range-is, word, word-is, word-yes}
+use Rattle.short_ratios.specs.Bounds.{factor, factor-is}
 use Rattle.short_synthesis.specs.declared.Line.{Line}
-use Rattle.short_synthesis.specs.Lattice.{factor, factor-is, word-back, widened, Each, Held}
+use Rattle.short_synthesis.specs.Lattice.{word-back, factor-back, widened, lined, Each, Held, all-from, Passed}
 
 -- the word that such a number stands for
 abbrev pub low : ℤ → ℤ
@@ -29,37 +30,11 @@ lifted z = word (low z)
 
 -- what eight of them stand for
 abbrev pub base : Line → Line
-base l =
-    record {
-      v0 = low (l .v0);
-      v1 = low (l .v1);
-      v2 = low (l .v2);
-      v3 = low (l .v3);
-      v4 = low (l .v4);
-      v5 = low (l .v5);
-      v6 = low (l .v6);
-      v7 = low (l .v7);
-    }
+base = lined low
 
 -- what is added to a product with such a number: the rounding term, less the r * 32768 that the product has too much
 abbrev pub offset : ℤ → ℤ
 offset r = pos 16384 -ℤ r *ℤ pos 32768
-
--- each of the eight c is the offset of its coefficient
-pub record Offsets (r c : Line) : Type 0 where
-  pub v0 : c .v0 ≡ offset (r .v0)
-  pub v1 : c .v1 ≡ offset (r .v1)
-  pub v2 : c .v2 ≡ offset (r .v2)
-  pub v3 : c .v3 ≡ offset (r .v3)
-  pub v4 : c .v4 ≡ offset (r .v4)
-  pub v5 : c .v5 ≡ offset (r .v5)
-  pub v6 : c .v6 ≡ offset (r .v6)
-  pub v7 : c .v7 ≡ offset (r .v7)
-
--- a section as 4.3.4 has it, on the words that these stand for
-pub record Passed (r v sri o a : ℤ) : Type 0 where
-  pub out : low o ≡ sub (low sri) (mult-r r (low v))
-  pub above : low a ≡ add (low v) (mult-r r (low o))
 
 -- ---- the range of such a number
 
@@ -72,19 +47,12 @@ lifted-fits z h = omega (zar, lifted-is z h)
 pub lifted-back : (z : ℤ) → lifted z ≡ true → mem w32 z ≡ z
 lifted-back z h = back (lifted-fits z h)
 
+pub local-lifted : (z : ℤ) → lifted z ≡ true → lifted (mem w32 z) ≡ true
+local-lifted z h = rw (lifted-back z h) h
+
 -- each of eight is what a local of 32 bits gives back
 pub lifted-held : (l : Line) → Each word (base l) → Held l
-lifted-held l h =
-    record {
-      v0 = lifted-back (l .v0) (h .v0);
-      v1 = lifted-back (l .v1) (h .v1);
-      v2 = lifted-back (l .v2) (h .v2);
-      v3 = lifted-back (l .v3) (h .v3);
-      v4 = lifted-back (l .v4) (h .v4);
-      v5 = lifted-back (l .v5) (h .v5);
-      v6 = lifted-back (l .v6) (h .v6);
-      v7 = lifted-back (l .v7) (h .v7);
-    }
+lifted-held = all-from low lifted-back
 
 -- the test of it, as the code makes it
 least-is : (z : ℤ) (b : Bool) → leZ (pos 0) z ≡ b → leZ (neg 32768) (low z) ≡ b
@@ -196,14 +164,14 @@ module _ (m : ℤ) (h : word m ≡ true) where
       let t = mult-r m (pos 28180) in
       rw faded-is (omega (zar, minus-is t (pos 32768), add-is s (low t), minus-is s (pos 32768), add-is (low s) t))
 
--- ---- one section, of what went through locals
+-- through locals
+pub local-offset : (r : ℤ) → factor r ≡ true → mem w32 (offset r) ≡ offset (mem w32 r)
+local-offset r f = rw (factor-back r f) (back (offset-fits r f))
 
-module _ {r v s o a mr mv : ℤ} (er : mr ≡ r) (ev : mv ≡ v) (p : Passed mr mv s o a) where
-  pub low-out : low o ≡ sub (low s) (mult-r r (low v))
-  low-out = rw (er, ev) at (p .out)
+-- ---- a section that went through locals, which give back r and v as mr and mv, and then a
 
-  pub low-above : low (mem w32 a) ≡ add (low v) (mult-r r (low o))
-  low-above =
-      let t = mult-r mr (low o) in
-      let f : lifted a ≡ true = rw (p .above) (word-yes (add (low mv) t) (plus-fits w16 (low mv) t)) in
-      ap low (lifted-back a f) ∙ rw (er, ev) at (p .above)
+pub low-passed : (a : ℤ) {r v s o mr mv : ℤ} → mr ≡ r → mv ≡ v → Passed mr (low mv) s o (low a) → Passed r (low v) s o (low (mem w32 a))
+low-passed a {o = o} {mr = mr} {mv = mv} er ev p =
+    let t = mult-r mr o in
+    let f : lifted a ≡ true = rw (p .above) (word-yes (add (low mv) t) (plus-fits w16 (low mv) t)) in
+    rw (lifted-back a f, ← er, ← ev) p

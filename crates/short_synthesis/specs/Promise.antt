@@ -5,11 +5,11 @@ use lib.IntN.{ℤ}
 use Rattle.short_synthesis.specs.declared.Cells.{Cells}
 
 -- the cells from their two parts
-abbrev made : List ℤ → ℤ → Cells
-made v msr = record { v = v; msr = msr }
+abbrev cells-of : List ℤ → ℤ → Cells
+cells-of v msr = record { v = v; msr = msr }
 
 -- two answers that are promised the same are equal
 pub one-cells : (t : List ℤ × ℤ) (a b : Cells) → a .v ≡ t .0 → a .msr ≡ t .1 → b .v ≡ t .0 → b .msr ≡ t .1 → a ≡ b
 one-cells t a b p q r s =
-    let parts : made (a .v) (a .msr) ≡ made (b .v) (b .msr) = cc (p ∙ sym r, q ∙ sym s) in
+    let parts : cells-of (a .v) (a .msr) ≡ cells-of (b .v) (b .msr) = cc (p ∙ sym r, q ∙ sym s) in
     parts

@@ -1,17 +1,16 @@
 -- 4.3.4 to 4.3.7 in one pass: what each sample goes through, from wt[k] to the output srop[k].
 use Prim.Native.Nat.{ℕ, _<_}
 use mathlib.Core.Path.{_≡_, refl}
-use mathlib.Core.Bool.{Bool, true}
+use mathlib.Core.Bool.{true}
 use mathlib.Core.List.{List, [], _∷_, map, zip, zipWith, foldr}
 use lib.IntN.{ℤ, pos}
 use lib.ListN.{length, getD, replicate, length-map}
-use lib.Signed.{leZ}
 use mir.Syntax.{w16}
 use Rattle.math_lists.specs.Scan.{run}
 use Rattle.math_lists.specs.Tab.{zip-replicate, map-at}
 use Rattle.math_lists.specs.Every.{every, every-cons, every-take}
 use Rattle.standard.specs.Arithmetic.{add, sub, mult-r}
-use Rattle.standard.specs.Tables.{neg, _at_}
+use Rattle.standard.specs.Tables.{_at_}
 use Rattle.standard.specs.Decoder.{inverse-section, synthesised, de-emphasis, srop}
 use Rattle.law_arithmetic.specs.Clip.{plus-fits, minus-fits}
 use Rattle.law_arithmetic.specs.Within.{word, word-yes}
@@ -37,10 +36,6 @@ sounded (v, msr) x =
 -- and those of a stretch
 unfoldable pub voiced : List ℤ → ℤ → List ℤ → List ℤ → (List ℤ × ℤ) × List ℤ
 voiced v msr rrp wt = run sounded (v, msr) (zip (replicate (length wt) rrp) wt)
-
--- a coefficient that is not -32768, so that mult_r never saturates
-abbrev pub not-least : ℤ → Bool
-not-least z = leZ (neg 32767) z
 
 -- ---- one pass over the samples equals the standard's three: 4.3.4, then 4.3.5, then 4.3.6 and 4.3.7
 

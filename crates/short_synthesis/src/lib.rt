@@ -4,17 +4,18 @@
 // is computed again with the sums of 4.3.4, which saturate.
 ghost use mathlib.Core.Path.{_≡_};
 ghost use mathlib.Core.Bool.{true};
-ghost use Prim.Native.Nat.{_+_, _≤_};
-ghost use lib.IntN.{_+ℤ_, _-ℤ_, natAbs};
+ghost use Prim.Native.Nat.{_+_};
+ghost use lib.IntN.{_+ℤ_, _-ℤ_};
 ghost use lib.ListN.{length};
 ghost use mir.Syntax.{w16};
 ghost use Rattle.math_lists.specs.Every.{every};
 ghost use Rattle.standard.specs.Arithmetic.{clip, add, sub, mult-r};
 ghost use Rattle.standard.specs.Decoder.{synthesised, de-emphasis, srop};
 ghost use Rattle.law_arithmetic.specs.Within.{word};
-ghost use Rattle.short_synthesis.specs.Speech.{spoken, not-least};
-ghost use Rattle.short_synthesis.specs.Lattice.{cells, factor, Each};
-ghost use Rattle.short_synthesis.specs.Biased.{low, lifted, base, offset, Offsets, Passed};
+ghost use Rattle.short_ratios.specs.Bounds.{factor};
+ghost use Rattle.short_synthesis.specs.Speech.{spoken};
+ghost use Rattle.short_synthesis.specs.Lattice.{cells, lined, Each, Passed};
+ghost use Rattle.short_synthesis.specs.Biased.{low, lifted, base, offset};
 
 // Eight cells v[0..7], or the eight coefficients that go with them. As fields they stay in the machine's registers.
 struct Line {
@@ -62,20 +63,12 @@ fn gathered(l: Line) -> [i16; 8]
     ]
 }
 
-// mult_r of a coefficient and a cell. The coefficient is not -32768, so mult_r cannot saturate.
-fn term(rrp: i32, v: i32) -> i32
-    requires { ⌜ (factor rrp ≡ true) × (word v ≡ true) ⌝ }
-    ensures { λ r. ⌜ r ≡ mult-r rrp v ⌝ }
-{
-    (rrp * v + 16384) >> 15
-}
-
 // sri after a section, before it saturates.
 fn lowered(rrp: i32, v: i32, sri: i32) -> i32
     requires { ⌜ (factor rrp ≡ true) × (word v ≡ true) × (word sri ≡ true) ⌝ }
     ensures { λ r. ⌜ r ≡ sri -ℤ mult-r rrp v ⌝ }
 {
-    sri - term(rrp, v)
+    sri - short_ratios::term(rrp, v)
 }
 
 // The cell above a section, from its sri, before it saturates.
@@ -83,7 +76,7 @@ fn raised(rrp: i32, v: i32, sri: i32) -> i32
     requires { ⌜ (factor rrp ≡ true) × (word v ≡ true) × (word sri ≡ true) ⌝ }
     ensures { λ r. ⌜ r ≡ v +ℤ mult-r rrp sri ⌝ }
 {
-    v + term(rrp, sri)
+    v + short_ratios::term(rrp, sri)
 }
 
 // A number limited to 16 bits.
@@ -108,8 +101,7 @@ struct Section {
 // A section as 4.3.4 writes it: both sums saturate.
 fn through(rrp: i32, v: i32, sri: i32) -> Section
     requires { ⌜ (factor rrp ≡ true) × (word v ≡ true) × (word sri ≡ true) ⌝ }
-    ensures out { λ r. ⌜ r .out ≡ sub sri (mult-r rrp v) ⌝ }
-    ensures above { λ r. ⌜ r .above ≡ add v (mult-r rrp (r .out)) ⌝ }
+    ensures { λ r. ⌜ Passed rrp v sri (r .out) (r .above) ⌝ }
 {
     let out = clipped(lowered(rrp, v, sri));
     Section {
@@ -165,7 +157,7 @@ fn offset(rrp: i32) -> i32
 // The offset of each coefficient.
 fn offsets(r: Line) -> Line
     requires { ⌜ Each factor r ⌝ }
-    ensures { λ c. ⌜ Offsets r c ⌝ }
+    ensures { λ c. ⌜ c ≡ lined offset r ⌝ }
 {
     Line {
         v0: offset(r.v0),
@@ -271,7 +263,8 @@ fn entered(rrp: i32, c: i32, v: i32, wt: i32) -> Attempt
 fn tried(rrp: i32, c: i32, v: i32, sri: Attempt) -> Attempt
     requires { ⌜ (factor rrp ≡ true) × (c ≡ offset rrp) × (lifted v ≡ true) × (lifted (sri .out) ≡ true) ⌝ }
     ensures out { λ r. ⌜ lifted (r .out) ≡ true ⌝ }
-    ensures fits { λ r. ⌜ (r .fits ≡ true → (sri .fits ≡ true) × Passed rrp v (sri .out) (r .out) (r .above)) ⌝ }
+    ensures fits { λ r. ⌜ (r .fits ≡ true → (sri .fits ≡ true)
+        × Passed rrp (low v) (low (sri .out)) (low (r .out)) (low (r .above))) ⌝ }
 {
     if !sri.fits {
         return sri;
@@ -300,7 +293,7 @@ struct Sample {
 
 // The eight sections by plain sums.
 fn plain(r: Line, c: Line, v: Line, wt: i32) -> Sample
-    requires { ⌜ Each factor r × Offsets r c × Each word (base v) × (lifted wt ≡ true) ⌝ }
+    requires { ⌜ Each factor r × (c ≡ lined offset r) × Each word (base v) × (lifted wt ≡ true) ⌝ }
     ensures { λ u. ⌜ (u .fits ≡ true → cells (base (u .line)) ≡ synthesised (cells (base v)) (cells r, low wt) .0) ⌝ }
 {
     let s7 = entered(r.v7, c.v7, v.v7, wt);
@@ -344,7 +337,7 @@ fn same(l: Line) -> Line
 
 // 4.3.4: one sample through the eight sections. v0 of what it gives is also sr[k].
 fn lattice(r: Line, c: Line, v: Line, wt: i32) -> Line
-    requires { ⌜ Each factor r × Offsets r c × Each word (base v) × (lifted wt ≡ true) ⌝ }
+    requires { ⌜ Each factor r × (c ≡ lined offset r) × Each word (base v) × (lifted wt ≡ true) ⌝ }
     ensures { λ u. ⌜ cells (base u) ≡ synthesised (cells (base v)) (cells r, low wt) .0 ⌝ }
 {
     let p = plain(r, c, v, wt);
@@ -382,7 +375,7 @@ pub struct Cells {
 // So it is a loop of its own, for which the compiler makes vector code (`voiced-is`, specs/Speech: the doubling can be
 // done last).
 pub fn stretch(s: Cells, rrp: [i16; 8], wt: &[i16], srop: &mut [i16]) -> Cells
-    requires { ⌜ (length (now srop) ≡ length (now wt)) × (every not-least rrp ≡ true) ⌝ }
+    requires { ⌜ (length (now srop) ≡ length (now wt)) × (every factor rrp ≡ true) ⌝ }
     ensures v { λ r. ⌜ r .v ≡ spoken (s .v) (s .msr) rrp (now (wt .entry)) .0 .0 ⌝ }
     ensures msr { λ r. ⌜ r .msr ≡ spoken (s .v) (s .msr) rrp (now (wt .entry)) .0 .1 ⌝ }
     ensures samples { λ r. ⌜ now (srop .exit) ≡ spoken (s .v) (s .msr) rrp (now (wt .entry)) .1 ⌝ }

@@ -2,14 +2,13 @@
 use Prim.Native.Nat.{_≤_}
 use mathlib.Core.Path.{_≡_, sym, ap, ap₂, _∙_}
 use mathlib.Core.List.{List, _++_, zip}
-use native.Mathlib.Omega.{arith}
 use lib.IntN.{ℤ}
-use lib.ListN.{length, take, length-append}
-use lib.Seq.{take-at}
+use lib.ListN.{length, take}
 use mir.Syntax.{w16, w32}
 use mir.Val.{SFits, toZ, ofZ}
 use borrow.Author.Needs.{needs}
 use Rattle.math_integers.specs.Ranges.{back, res}
+use Rattle.math_lists.specs.Parts.{front-back, front-room}
 use Rattle.math_lists.specs.Scan.{run, run-length}
 use Rattle.standard.specs.Preprocessing.{offset, emphasis, downscaled}
 use Rattle.standard.specs.Lpc.{r, ending, ratio-codes}
@@ -51,17 +50,22 @@ module _ (s : tie.Start) where
   d-length : length (back-again (whole.s c-of sop-of .1)) ≡ 160
   d-length = rescaled-length _ _ ∙ (scaled-length _ _ ∙ s-length)
 
+-- where the buffer for sof is ready
+abbrev ready : tie.After-room → tie.Start
+ready c = c .before .before .before .before
+
 offset-requires : tie.Need-offset-requires
 unfolding kept sound-coder
 offset-requires c κs =
-    let s = c .before .before .before .before .before .before in
-    let room = ap length (ap (take 160) (c .before .before .room .ensures)) in
+    let buffer = c .before .before in
+    let s = ready buffer in
+    let room = ap length (ap (take 160) (buffer .room .ensures)) in
     (room ∙ sym (s .pre .0), rw (back (z1-fits s), back (l-z2-fits s)) (s .pre .1 .1))
 
 -- 4.2.1, 4.2.2
 module _ (t : tie.After-offset) where
   abbrev start : tie.Start
-  start = t .before .before .before .before .before .before .before
+  start = ready (t .before .before .before)
 
   offset-state : kept (t .offset .result) ≡ whole.sof (c-of start) (sop-of start) .0
   unfolding kept
@@ -85,10 +89,10 @@ module _ (t : tie.After-offset) where
 
   -- the samples as the next stage reads them, at the start of the buffer
   sof-back : (rest : List ℤ) → take 160 (t .offset .last .1 .1 .0 ++ rest) ≡ whole.sof (c-of start) (sop-of start) .1
-  sof-back rest = take-at _ rest 160 (ap length offset-samples ∙ sof-length start) ∙ offset-samples
+  sof-back = front-back 160 offset-samples (sof-length start)
 
   sof-room : (rest : List ℤ) → 160 ≤ length (t .offset .last .1 .1 .0 ++ rest)
-  sof-room rest = omega (arith, length-append (t .offset .last .1 .1 .0) rest, ap length offset-samples, sof-length start)
+  sof-room = front-room 160 offset-samples (sof-length start)
 
 emphasis-requires : tie.Need-emphasis-requires
 emphasis-requires c κs =
@@ -98,7 +102,7 @@ emphasis-requires c κs =
 -- 4.2.3
 module _ (e : tie.After-emphasis) where
   abbrev filters : tie.After-offset
-  filters = e .before .before .before .before .before
+  filters = let lent : tie.After-sof3 = e .before .before .before in lent .before .before
 
   abbrev first : tie.Start
   first = start filters
@@ -135,14 +139,17 @@ filtered-requires c κs =
 
 -- 4.2.8 to 4.2.10
 module _ (n : tie.After-filtered) where
+  abbrev decoded : tie.After-ratios
+  decoded = n .before .before
+
   abbrev coded : tie.After-measured
-  coded = n .before .before .before .before .before
+  coded = decoded .before .before .before
 
   abbrev at-start : tie.Start
   at-start = from coded
 
-  new-is : n .before .before .ratios .result ≡ ratios (whole.codes (c-of at-start) (sop-of at-start))
-  new-is = n .before .before .ratios .ensures ∙ ap ratios (codes-are coded)
+  new-is : decoded .ratios .result ≡ ratios (whole.codes (c-of at-start) (sop-of at-start))
+  new-is = decoded .ratios .ensures ∙ ap ratios (codes-are coded)
 
   -- the lattice, from the old ratios to the new
   abbrev lattice : List ℤ → List ℤ → List ℤ × List ℤ
@@ -150,7 +157,7 @@ module _ (n : tie.After-filtered) where
 
   u-is : n .filtered .result ≡ whole.d (c-of at-start) (sop-of at-start) .0
   u-is =
-      let new = n .before .before .ratios .result in
+      let new = decoded .ratios .result in
       let given : n .filtered .result ≡ lattice new (coded .measured .last .0) .0 = n .filtered .ensures .0 in
       given ∙ ap₂ (λ (new xs : List ℤ). lattice new xs .0) new-is (back-is coded)
 

@@ -22,8 +22,12 @@ s-of s = s .args .s .now
 scale-is : (t : tie.After-scalauto) → t .scalauto .result ≡ scalauto (s-of (t .before .before))
 scale-is t = t .scalauto .ensures
 
+-- the start, from where they are scaled
+abbrev start : tie.After-scaled → tie.Start
+start t = t .before .before .before .before
+
 -- the scaled samples
-small-is : (t : tie.After-scaled) → let s = s-of (t .before .before .before .before) in t .scaled .last .1 .0 ≡ scaled (scalauto s) s
+small-is : (t : tie.After-scaled) → let s = s-of (start t) in t .scaled .last .1 .0 ≡ scaled (scalauto s) s
 small-is t =
     let a = t .before .before in
     t .scaled .ensures ∙ ap (λ (n : ℤ). scaled n (s-of (a .before .before))) (res (a .scalauto) ∙ scale-is a)
@@ -31,16 +35,16 @@ small-is t =
 l-acf-requires : tie.Need-l-acf-requires
 l-acf-requires c κs =
     let t = c .before .before in
-    let s = t .before .before .before .before in
+    let s = start t in
     rw (small-is t) (scaled-length (scalauto (s-of s)) (s-of s) ∙ s .pre .0, scaled-small (s-of s) (s .pre .1))
 
 -- the nine sums
-sums-are : (t : tie.After-l-acf) → t .l-acf .result ≡ sums (s-of (t .before .before .before .before .before .before .before))
+sums-are : (t : tie.After-l-acf) → t .l-acf .result ≡ sums (s-of (start (t .before .before .before)))
 sums-are t = t .l-acf .ensures ∙ ap L-ACF (small-is (t .before .before .before))
 
 reflection-coefficients-requires : tie.Need-reflection-coefficients-requires
 reflection-coefficients-requires c κs =
-    let s = c .before .before .before .before .before .before .before in
+    let s = start (c .before .before .before) in
     let n = scaled-length (scalauto (s-of s)) (s-of s) ∙ s .pre .0 in
     rw (sums-are c) (L-ACF-above (scaled (scalauto (s-of s)) (s-of s)) n (scaled-small (s-of s) (s .pre .1)))
 

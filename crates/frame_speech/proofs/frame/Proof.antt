@@ -1,30 +1,40 @@
 -- Each of the four calls gives the samples of its stretch, from the cells that the call before gives. The four parts joined are
 -- the frame of the definition (`frame-four`).
-use mathlib.Core.Path.{_≡_, refl, sym, _∙_}
+use mathlib.Core.Path.{_≡_, refl, sym, ap, _∙_}
 use mathlib.Core.List.{List, _++_}
 use native.Mathlib.Nat.{le-of-eq}
+use native.Mathlib.Omega.{arith}
 use borrow.Author.Needs.{needs}
 use lib.IntN.{ℤ}
-use lib.ListN.{length, take, drop}
+use lib.ListN.{length, take, drop, length-append}
 use Rattle.short_ratios.specs.Stretches.{rps}
 use Rattle.short_ratios.specs.Bounds.{rps-above}
 use Rattle.short_synthesis.specs.Speech.{spoken}
-use Rattle.math_lists.specs.Parts.{lent-three, lent-four, three-length, four, four-length}
+use Rattle.math_lists.specs.Parts.{lent-three, lent-four, three-length, four}
 use Rattle.frame_speech.specs.Four.{spoken-length, spoken-parts, frame-four}
 use Rattle.frame_speech.proofs.frame.Statement.{statement}
 use Rattle.frame_speech.proofs.frame.Tie as tie
 
 -- ---- points of the code: a, b, c and d stand after the first, second, third and fourth stretch
 
--- from after each stretch, the point after the one before it
+-- from after each stretch, the point where it has its coefficients, and from there the end of the stretch before
+abbrev rrp-2 : tie.After-stretch2 → tie.After-coefficients2
+rrp-2 b = b .before .before .before
+
 abbrev first-of : tie.After-stretch2 → tie.After-stretch
-first-of b = b .before .before .before .before .before
+first-of b = rrp-2 b .before .before
+
+abbrev rrp-3 : tie.After-stretch3 → tie.After-coefficients3
+rrp-3 c = c .before .before .before
 
 abbrev second-of : tie.After-stretch3 → tie.After-stretch2
-second-of c = c .before .before .before .before .before
+second-of c = rrp-3 c .before .before
+
+abbrev rrp-4 : tie.After-stretch4 → tie.After-coefficients4
+rrp-4 d = d .before .before .before
 
 abbrev third-of : tie.After-stretch4 → tie.After-stretch3
-third-of d = d .before .before .before .before .before
+third-of d = rrp-4 d .before .before
 
 -- the start, from after each stretch
 abbrev start-1 : tie.After-stretch → tie.Start
@@ -134,41 +144,34 @@ first a =
 second : (b : tie.After-stretch2) → let r = first-of b .stretch .result in let s = start-2 b .args in
     given-2 b ≡ spoken (r .v) (r .msr) (rps 1 (s .old) (s .new)) (take 14 (drop 13 (s .wt .now)))
 second b =
-    let e = rw (b .before .before .before .coefficients2 .ensures) at (b .stretch2 .ensures) in
+    let e = rw (rrp-2 b .coefficients2 .ensures) at (b .stretch2 .ensures) in
     spoken-parts _ _ _ _ (e .0) (e .1 .0) (e .1 .1)
 
 third : (c : tie.After-stretch3) → let r = second-of c .stretch2 .result in let s = start-3 c .args in
     given-3 c ≡ spoken (r .v) (r .msr) (rps 2 (s .old) (s .new)) (take 13 (drop 27 (s .wt .now)))
 third c =
-    let e = rw (c .before .before .before .coefficients3 .ensures) at (c .stretch3 .ensures) in
+    let e = rw (rrp-3 c .coefficients3 .ensures) at (c .stretch3 .ensures) in
     spoken-parts _ _ _ _ (e .0) (e .1 .0) (e .1 .1)
 
 fourth : (d : tie.After-stretch4) → let r = third-of d .stretch3 .result in let s = start-4 d .args in
     given-4 d ≡ spoken (r .v) (r .msr) (rps 3 (s .old) (s .new)) (take 120 (drop 40 (s .wt .now)))
 fourth d =
-    let e = rw (d .before .before .before .coefficients4 .ensures) at (d .stretch4 .ensures) in
+    let e = rw (rrp-4 d .coefficients4 .ensures) at (d .stretch4 .ensures) in
     spoken-parts _ _ _ _ (e .0) (e .1 .0) (e .1 .1)
 
 -- ---- the frame
 
--- the buffer is the four parts, joined
-parts : (d : tie.After-stretch4) → let c = third-of d in let b = second-of c in let a = first-of b in
-    lent-four (start-4 d .args .srop .now) (y₁ a) (y₂ b) (y₃ c) 13 14 13 (y₄ d) 120 ≡ y₁ a ++ (y₂ b ++ (y₃ c ++ y₄ d))
+-- the buffer is the four parts, joined, and as long as before
+parts : (d : tie.After-stretch4) → let c = third-of d in let b = second-of c in let a = first-of b in let xs = start-4 d .args .srop .now in
+    let filled = lent-four xs (y₁ a) (y₂ b) (y₃ c) 13 14 13 (y₄ d) 120 in
+    (filled ≡ y₁ a ++ (y₂ b ++ (y₃ c ++ y₄ d))) × (length filled ≡ length xs)
 parts d =
     let c = third-of d in
     let b = second-of c in
     let a = first-of b in
     let s = start-4 d in
-    four (s .args .srop .now) (y₁ a) (y₂ b) (y₃ c) 13 14 13 120 (one a) (two b) (three c) (s .pre .1) (y₄ d) (last d)
-
-same-length : tie.Need-same-length
-same-length p =
-    let d = p .before in
-    let c = third-of d in
-    let b = second-of c in
-    let a = first-of b in
-    let s = start-4 d in
-    four-length (s .args .srop .now) (y₁ a) (y₂ b) (y₃ c) 13 14 13 120 (one a) (two b) (three c) (s .pre .1) (y₄ d) (last d)
+    let whole = four (s .args .srop .now) (y₁ a) (y₂ b) (y₃ c) 13 14 13 120 (one a) (two b) (three c) (s .pre .1) (y₄ d) (last d) in
+    (whole, ap length whole ∙ simp length-append (omega (arith, one a, two b, three c, last d, s .pre .1)))
 
 returns : tie.Need-returns
 returns p =
@@ -179,7 +182,7 @@ returns p =
     let s = start-4 d .args in
     let t =
     frame-four (s .s .v) (s .s .msr) (s .old) (s .new) (s .wt .now) _ _ _ _ (start-4 d .pre .0) (first a) (second b) (third c) (fourth d) in
-    rw t (refl, (refl, parts d))
+    rw t (refl, (refl, parts d .0))
 
 pub frame-spec : {M : Type 1} → statement M
 frame-spec =
@@ -217,5 +220,5 @@ frame-spec =
     (λ c. search needs)
     end-8
     requires-4
-    same-length
+    (λ p. parts (p .before) .1)
     returns)

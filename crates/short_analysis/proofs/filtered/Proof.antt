@@ -17,8 +17,8 @@ use Rattle.math_lists.specs.Every.{every, every-at}
 use Rattle.standard.specs.Tables.{_at_}
 use Rattle.standard.specs.ShortTerm.{coefficients, analysed}
 use Rattle.short_ratios.specs.Stretches.{rps}
-use Rattle.short_ratios.specs.Bounds.{rps-above}
-use Rattle.short_analysis.specs.Sections.{not-least, own, spread-every, spread-length, stage}
+use Rattle.short_ratios.specs.Bounds.{factor, rps-above}
+use Rattle.short_analysis.specs.Sections.{own, spread-every, spread-length, stage}
 use Rattle.short_analysis.specs.Frame.{columns, pairs-eight, Done, done-next, frame-is}
 use Rattle.short_analysis.proofs.filtered.Statement.{statement}
 use Rattle.short_analysis.proofs.filtered.Tie as tie
@@ -61,16 +61,16 @@ module _ (r : tie.After-coefficients4 Inv-loop μ-loop) where
   eight = (search needs, search needs, search needs, search needs, search needs)
 
   -- no coefficient is -32768
-  own-above : (i : ℕ) → i < 8 → every not-least (own first second third fourth i) ≡ true
+  own-above : (i : ℕ) → i < 8 → every factor (own first second third fourth i) ≡ true
   own-above i h =
-      spread-every not-least (first at i) (second at i) (third at i) (fourth at i)
+      spread-every factor (first at i) (second at i) (third at i) (fourth at i)
       (above 0 first (r .before .before .before .coefficients .ensures) (eight .1))
       (above 1 second (r .before .before .coefficients2 .ensures) (eight .2))
       (above 2 third (r .before .coefficients3 .ensures) (eight .3))
       (above 3 fourth (r .coefficients4 .ensures) (eight .4))
     where
-      above : (n : ℕ) (xs : List ℤ) → xs ≡ rps n (start .args .old) (start .args .new) → length xs ≡ 8 → not-least (xs at i) ≡ true
-      above n xs e l = every-at not-least xs i (pos 0) (rw e (rps-above n _ _)) (omega arith)
+      above : (n : ℕ) (xs : List ℤ) → xs ≡ rps n (start .args .old) (start .args .new) → length xs ≡ 8 → factor (xs at i) ≡ true
+      above n xs e l = every-at factor xs i (pos 0) (rw e (rps-above n _ _)) (omega arith)
 
   -- a section has one for each sample
   own-length : (i : ℕ) {rp : List ℤ} → rp ≡ own first second third fourth i → length rp ≡ 160
@@ -78,8 +78,8 @@ module _ (r : tie.After-coefficients4 Inv-loop μ-loop) where
 
   -- so the next call has what it asks for
   asked : {i : ℕ} {rp di p q kept : List ℤ} → i < 8 → rp ≡ own first second third fourth i → Past i di p q kept
-      → ((length rp ≡ 160) × (length p ≡ 161)) × ((length di ≡ 160) × ((length q ≡ 161) × (every not-least rp ≡ true)))
-  asked {i} l e d = ((own-length i e, d .p-length), (d .di-length, (d .q-length, ap (every not-least) e ∙ own-above i l)))
+      → ((length rp ≡ 160) × (length p ≡ 161)) × ((length di ≡ 160) × ((length q ≡ 161) × (every factor rp ≡ true)))
+  asked {i} l e d = ((own-length i e, d .p-length), (d .di-length, (d .q-length, ap (every factor) e ∙ own-above i l)))
 
 after-cell-requires : tie.Need-after-cell-requires Inv-loop μ-loop
 after-cell-requires c κs = start (c .before) .pre

@@ -1,45 +1,32 @@
--- The rounded product is mult_r, since the coefficient is not -32768.
-use Prim.Native.Nat.{ℕ, _+_}
-use mathlib.Core.Path.{_≡_, sym, _∙_}
-use mathlib.Core.Bool.{true}
-use native.Mathlib.Omega.{arith}
-use lib.Dec.{T, ltb, ltb→lt}
-use lib.IntN.{ℤ, pos, _+ℤ_, _*ℤ_}
+-- mult_r gives a word, so the casts to 32 bits and back change no number.
+use mathlib.Core.Path.{_≡_, _∙_}
+use lib.IntN.{ℤ}
 use mir.Syntax.{w16, w32}
 use mir.Val.{SFits}
-use Rattle.math_integers.specs.Halves.{zar, mem, know}
-use Rattle.math_integers.specs.Ranges.{zfits, back}
-use Rattle.math_integers.specs.Sums.{add-is, mul-in, shr-is}
-use Rattle.standard.specs.Arithmetic.{_>>_}
-use Rattle.law_arithmetic.specs.Product.{mult-r-plain}
-use Rattle.short_analysis.specs.Sections.{not-least}
-use Rattle.short_analysis.proofs.term.Statement.{statement}
-use Rattle.short_analysis.proofs.term.Tie as tie
+use Rattle.math_integers.specs.Halves.{mem}
+use Rattle.math_integers.specs.Ranges.{zfits, back, res}
+use Rattle.law_arithmetic.specs.Product.{mult-r-fits}
+use Rattle.law_arithmetic.specs.Within.{word-yes}
+use Rattle.short_analysis.proofs.product.Statement.{statement}
+use Rattle.short_analysis.proofs.product.Tie as tie
 
--- what the code computes on 32 bits, with a rounding term k
-rounded : (a b : ℤ) (k : ℕ) → SFits w16 a → SFits w16 b → T (ltb (1073741824 + k) 2147483648)
-    → mem w32 (mem w32 (mem w32 (mem w32 (mem w16 a) *ℤ mem w32 (mem w16 b)) +ℤ pos k) >> 15) ≡ (a *ℤ b +ℤ pos k) >> 15
-rounded a b k f g t = search zfits
+-- what the cast gives
+wide-is : (z : ℤ) → SFits w16 z → mem w32 (mem w16 z) ≡ z
+wide-is z f = search zfits
 
--- it is a word
-small : (a b : ℤ) (k : ℕ) → SFits w16 a → not-least a ≡ true → SFits w16 b → T (ltb k 32768) → SFits w16 ((a *ℤ b +ℤ pos k) >> 15)
-small a b k f h g t =
-    let m = mul-in 32767 32768 a b (omega (zar, know f)) (omega (arith, know g)) in
-    omega (zar, m, ltb→lt k 32768 t, add-is (a *ℤ b) (pos k), shr-is (a *ℤ b +ℤ pos k) 32768 (omega arith))
+term-requires : tie.Need-term-requires
+term-requires c κs =
+    let x = c .args .x in
+    (rw (wide-is (c .args .rp) (c .fits .rp)) (c .pre), rw (wide-is x (c .fits .x)) (word-yes x (c .fits .x)))
 
-cast-result-3 : tie.Need-cast-result-3
-cast-result-3 c =
-    let a = c .args .rp in
-    let b = c .args .x in
-    rw (rounded a b _ (c .fits .rp) (c .fits .x) tt) (small a b _ (c .fits .rp) (c .pre) (c .fits .x) tt)
+cast-result : tie.Need-cast-result
+cast-result c = rw (res (c .term), c .term .ensures) (mult-r-fits _ _)
 
 returns : tie.Need-returns
 returns c =
-    let a = c .args .rp in
-    let b = c .args .x in
-    let f = c .fits .rp in
-    let g = c .fits .x in
-    rw (rounded a b _ f g tt) (back (small a b 16384 f (c .pre) g tt) ∙ sym (mult-r-plain a b f g (omega (zar, know f, know g, c .pre))))
+    let s = c .before in
+    let product = rw (wide-is (s .args .rp) (s .fits .rp), wide-is (s .args .x) (s .fits .x)) at (c .term .ensures) in
+    back (cast-result c) ∙ (res (c .term) ∙ product)
 
-pub term-spec : {M : Type 1} → statement M
-term-spec = tie.close (tie.spec (λ c. search zfits) (λ c. search zfits) (λ c. search zfits) (λ c. search zfits) cast-result-3 returns)
+pub product-spec : {M : Type 1} → statement M
+product-spec = tie.close (tie.spec (λ c. search zfits) (λ c. search zfits) term-requires cast-result returns)

@@ -13,7 +13,8 @@ use Rattle.math_lists.specs.Every.{every-at}
 use Rattle.math_lists.specs.Fill.{filled, fill-next, fill-read, fill-end}
 use Rattle.standard.specs.Arithmetic.{add, mult-r}
 use Rattle.standard.specs.Tables.{_at_}
-use Rattle.short_analysis.specs.Sections.{not-least, further, saved, further-length, further-at}
+use Rattle.short_ratios.specs.Bounds.{factor}
+use Rattle.short_analysis.specs.Sections.{further, saved, further-length, further-at}
 use Rattle.short_analysis.proofs.section.Statement.{statement}
 use Rattle.short_analysis.proofs.section.Tie as tie
 
@@ -51,15 +52,15 @@ d-is c =
     let n = further-length 160 rp prev di (s .pre .0 .0) (s .pre .0 .1) (s .pre .1 .0) in
     back f ∙ fill-read (further rp prev di) di i (b .loop .inv .3) i (pos 0) (omega (arith, n)) (omega arith)
 
-term-requires : tie.Need-term-requires Inv-loop μ-loop
-term-requires c κs =
+product-requires : tie.Need-product-requires Inv-loop μ-loop
+product-requires c κs =
     let b = c .before .before .before .before in
     let s = b .before in
     let l : length (s .args .rp .now) ≡ 160 = s .pre .0 .0 in
-    rw (r-is (c .before .before)) (every-at not-least (s .args .rp .now) (b .loop .k) (pos 0) (s .pre .1 .1 .1) (omega arith))
+    rw (r-is (c .before .before)) (every-at factor (s .args .rp .now) (b .loop .k) (pos 0) (s .pre .1 .1 .1) (omega arith))
 
-term-requires-2 : tie.Need-term-requires-2 Inv-loop μ-loop
-term-requires-2 c κs = term-requires (c .before .before) κs
+product-requires-2 : tie.Need-product-requires-2 Inv-loop μ-loop
+product-requires-2 c κs = product-requires (c .before .before) κs
 
 loop-again : tie.Need-loop-again Inv-loop μ-loop
 loop-again c =
@@ -79,8 +80,8 @@ loop-again c =
     let ls : length (s .args .sav .now) ≡ 160 = s .pre .1 .1 .0 in
     let r = r-is (d .before .before) in
     let p = p-is (d .before) in
-    let out = a .add .ensures ∙ ap₂ add (d-is d) (res (t .term) ∙ (t .term .ensures ∙ ap₂ mult-r r p)) in
-    let kept = c .add2 .ensures ∙ ap₂ add p (res (t₂ .term2) ∙ (t₂ .term2 .ensures ∙ ap₂ mult-r r (d-is d))) in (
+    let out = a .add .ensures ∙ ap₂ add (d-is d) (res (t .product) ∙ (t .product .ensures ∙ ap₂ mult-r r p)) in
+    let kept = c .add2 .ensures ∙ ap₂ add p (res (t₂ .product2) ∙ (t₂ .product2 .ensures ∙ ap₂ mult-r r (d-is d))) in (
       search needs,
       simp length-set (b .loop .inv .1),
       simp length-set (b .loop .inv .2),
@@ -120,11 +121,11 @@ section-spec =
     (λ c. search needs)
     (λ c. search needs)
     (λ c. search needs)
-    term-requires
+    product-requires
     (λ c κs. search needs)
     (λ c. search needs)
     (λ c. search needs)
-    term-requires-2
+    product-requires-2
     (λ c κs. search needs)
     (λ c. search needs)
     (λ c. search needs)

@@ -29,9 +29,10 @@ returns-2 c =
 returns-3 : tie.Need-returns-3
 unfolding LARp stretches
 returns-3 c =
-    let s = c .before .before .before .before .before in
+    let third = c .before .before in
+    let s = third .before .before .before in
     let n = down-bits w16 (s .args .new) in
-    rw (c .before .before .if3 .taken)
+    rw (third .if3 .taken)
     (cc (down-bits w16 (s .args .old) 2 (s .fits .old), n 2 (s .fits .new), n 1 (s .fits .new), res (c .before .add4), res (c .add5)))
 
 returns-4 : tie.Need-returns-4

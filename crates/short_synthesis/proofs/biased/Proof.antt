@@ -8,7 +8,7 @@ use Rattle.math_integers.specs.Halves.{know}
 use Rattle.math_integers.specs.Ranges.{back, rounded-fits, shr-fits}
 use Rattle.law_arithmetic.specs.Product.{mult-r-plain}
 use Rattle.law_arithmetic.specs.Within.{range-is, word-is}
-use Rattle.short_synthesis.specs.Lattice.{factor-is}
+use Rattle.short_ratios.specs.Bounds.{factor-is}
 use Rattle.short_synthesis.specs.Biased.{low, unbiased, product-fits, rounded}
 use Rattle.short_synthesis.proofs.biased.Statement.{statement}
 use Rattle.short_synthesis.proofs.biased.Tie as tie

@@ -1,5 +1,5 @@
 -- Eight words of 32 bits become words of 16 bits: each fits, so the cast changes none of the numbers.
-use mathlib.Core.Path.{_≡_}
+use mathlib.Core.Path.{_≡_, ap}
 use mathlib.Core.Bool.{true}
 use lib.IntN.{ℤ}
 use mir.Syntax.{w16, w32}
@@ -7,7 +7,7 @@ use mir.Val.{SFits}
 use Rattle.math_integers.specs.Halves.{mem}
 use Rattle.math_integers.specs.Ranges.{back}
 use Rattle.law_arithmetic.specs.Within.{word, word-is}
-use Rattle.short_synthesis.specs.Lattice.{word-back}
+use Rattle.short_synthesis.specs.Lattice.{cells, All, all-from, lined-same, word-back}
 use Rattle.short_synthesis.proofs.gathered.Statement.{statement}
 use Rattle.short_synthesis.proofs.gathered.Tie as tie
 
@@ -19,57 +19,35 @@ fits z h = rw (word-back z h) (word-is z h)
 cut : (z : ℤ) → word z ≡ true → mem w16 (mem w32 z) ≡ z
 cut z h = rw (word-back z h) (back (word-is z h))
 
--- the start, from where each of the eight is read
-abbrev entry-0 : tie.After-struct-told → tie.Start
-entry-0 c = c .before .before
+-- the start, from where the second of the eight is read, the fourth and the sixth
+abbrev start-2 : tie.After-struct-told2 → tie.Start
+start-2 c = c .before .before .before .before
 
-abbrev entry-1 : tie.After-struct-told2 → tie.Start
-entry-1 c = entry-0 (c .before .before)
+abbrev start-4 : tie.After-struct-told4 → tie.Start
+start-4 c = start-2 (c .before .before .before .before)
 
-abbrev entry-2 : tie.After-struct-told3 → tie.Start
-entry-2 c = entry-1 (c .before .before)
+abbrev start-6 : tie.After-struct-told6 → tie.Start
+start-6 c = start-4 (c .before .before .before .before)
 
-abbrev entry-3 : tie.After-struct-told4 → tie.Start
-entry-3 c = entry-2 (c .before .before)
-
-abbrev entry-4 : tie.After-struct-told5 → tie.Start
-entry-4 c = entry-3 (c .before .before)
-
-abbrev entry-5 : tie.After-struct-told6 → tie.Start
-entry-5 c = entry-4 (c .before .before)
-
-abbrev entry-6 : tie.After-struct-told7 → tie.Start
-entry-6 c = entry-5 (c .before .before)
-
-abbrev entry-7 : tie.After-struct-told8 → tie.Start
-entry-7 c = entry-6 (c .before .before)
+-- each of them is one
+each-fits : (s : tie.Start) → All (λ z. SFits w16 (mem w32 z)) (s .args .l)
+each-fits s = all-from (λ z. z) fits (s .args .l) (s .pre)
 
 returns : tie.Need-returns
 returns c =
-    let s = entry-7 c in
-    let l = s .args .l in
-    let h = s .pre in
-    rw (
-      cut (l .v0) (h .v0),
-      cut (l .v1) (h .v1),
-      cut (l .v2) (h .v2),
-      cut (l .v3) (h .v3),
-      cut (l .v4) (h .v4),
-      cut (l .v5) (h .v5),
-      cut (l .v6) (h .v6),
-      cut (l .v7) (h .v7),
-    )
+    let s = start-6 (c .before .before .before .before) in
+    ap cells (lined-same (λ z. mem w16 (mem w32 z)) (λ z. z) cut (s .args .l) (s .pre))
 
 pub gathered-spec : {M : Type 1} → statement M
 gathered-spec =
     tie.close
     (tie.spec
-    (λ c. let s = entry-0 c in fits (s .args .l .v0) (s .pre .v0))
-    (λ c. let s = entry-1 c in fits (s .args .l .v1) (s .pre .v1))
-    (λ c. let s = entry-2 c in fits (s .args .l .v2) (s .pre .v2))
-    (λ c. let s = entry-3 c in fits (s .args .l .v3) (s .pre .v3))
-    (λ c. let s = entry-4 c in fits (s .args .l .v4) (s .pre .v4))
-    (λ c. let s = entry-5 c in fits (s .args .l .v5) (s .pre .v5))
-    (λ c. let s = entry-6 c in fits (s .args .l .v6) (s .pre .v6))
-    (λ c. let s = entry-7 c in fits (s .args .l .v7) (s .pre .v7))
+    (λ c. each-fits (c .before .before) .v0)
+    (λ c. each-fits (start-2 c) .v1)
+    (λ c. each-fits (start-2 (c .before .before)) .v2)
+    (λ c. each-fits (start-4 c) .v3)
+    (λ c. each-fits (start-4 (c .before .before)) .v4)
+    (λ c. each-fits (start-6 c) .v5)
+    (λ c. each-fits (start-6 (c .before .before)) .v6)
+    (λ c. each-fits (start-6 (c .before .before .before .before)) .v7)
     returns)

@@ -1,21 +1,13 @@
 -- One sample as 4.3.4 writes it: each section takes the sri that the one before gives, and all eight are the definition's.
-use mathlib.Core.Path.{_≡_, refl}
-use mathlib.Core.Bool.{true}
+use mathlib.Core.Path.{refl}
 use mir.Syntax.{w32}
 use Rattle.math_integers.specs.Halves.{mem}
 use Rattle.math_integers.specs.Ranges.{back}
 use Rattle.law_arithmetic.specs.Within.{word}
-use Rattle.short_synthesis.specs.declared.Line.{Line}
-use Rattle.short_synthesis.specs.Lattice.{Held, words-held, factors-held, word-back, out-word, out-is, above-is, Sections, sections-are}
+use Rattle.short_ratios.specs.Bounds.{factor}
+use Rattle.short_synthesis.specs.Lattice.{Each, all-from, factor-back, local-factor, word-back, local-word, passed-word, passed, sections-are}
 use Rattle.short_synthesis.proofs.limited.Statement.{statement}
 use Rattle.short_synthesis.proofs.limited.Tie as tie
-
--- what the locals give back
-factors : (c : tie.Start) → Held (c .args .r)
-factors c = factors-held (c .args .r) (c .pre .0)
-
-cells-held : (c : tie.Start) → Held (c .args .v)
-cells-held c = words-held (c .args .v) (c .pre .1)
 
 -- the start, from after each call
 abbrev entry-1 : tie.After-through → tie.Start
@@ -39,130 +31,26 @@ entry-6 c = entry-5 (c .before .before .before .before)
 abbrev entry-7 : tie.After-through7 → tie.Start
 entry-7 c = entry-6 (c .before .before .before .before)
 
-abbrev entry-8 : tie.After-through8 → tie.Start
-entry-8 c = entry-7 (c .before .before .before .before)
+-- ---- what each call asks: what a local gives back of a coefficient or a cell passes the same test
 
--- ---- sri after each section is a word
+factors : (s : tie.Start) → Each (λ z. factor (mem w32 z)) (s .args .r)
+factors s = all-from (λ z. z) local-factor (s .args .r) (s .pre .0)
 
-word-1 : (c : tie.After-through) → word (c .through .result .out) ≡ true
-word-1 c = out-word refl refl refl (c .through .ensures .0)
+words : (s : tie.Start) → Each (λ z. word (mem w32 z)) (s .args .v)
+words s = all-from (λ z. z) local-word (s .args .v) (s .pre .1)
 
-word-2 : (c : tie.After-through2) → word (c .through2 .result .out) ≡ true
-word-2 c = out-word refl refl refl (c .through2 .ensures .0)
-
-word-3 : (c : tie.After-through3) → word (c .through3 .result .out) ≡ true
-word-3 c = out-word refl refl refl (c .through3 .ensures .0)
-
-word-4 : (c : tie.After-through4) → word (c .through4 .result .out) ≡ true
-word-4 c = out-word refl refl refl (c .through4 .ensures .0)
-
-word-5 : (c : tie.After-through5) → word (c .through5 .result .out) ≡ true
-word-5 c = out-word refl refl refl (c .through5 .ensures .0)
-
-word-6 : (c : tie.After-through6) → word (c .through6 .result .out) ≡ true
-word-6 c = out-word refl refl refl (c .through6 .ensures .0)
-
-word-7 : (c : tie.After-through7) → word (c .through7 .result .out) ≡ true
-word-7 c = out-word refl refl refl (c .through7 .ensures .0)
-
-through-requires : tie.Need-through-requires
-through-requires c κs =
+first-requires : tie.Need-through-requires
+first-requires c κs =
     let s = c .before .before in
-    (rw (factors s .v7) (s .pre .0 .v7), rw (cells-held s .v7) (s .pre .1 .v7), rw (back (s .fits .wt)) (s .pre .2))
-
-through-requires-2 : tie.Need-through-requires-2
-through-requires-2 c κs =
-    let b = c .before .before .before in
-    let s = entry-1 b in
-    let w = word-1 b in
-    (rw (factors s .v6) (s .pre .0 .v6), rw (cells-held s .v6) (s .pre .1 .v6), rw (word-back (b .through .result .out) w) w)
-
-through-requires-3 : tie.Need-through-requires-3
-through-requires-3 c κs =
-    let b = c .before .before .before in
-    let s = entry-2 b in
-    let w = word-2 b in
-    (rw (factors s .v5) (s .pre .0 .v5), rw (cells-held s .v5) (s .pre .1 .v5), rw (word-back (b .through2 .result .out) w) w)
-
-through-requires-4 : tie.Need-through-requires-4
-through-requires-4 c κs =
-    let b = c .before .before .before in
-    let s = entry-3 b in
-    let w = word-3 b in
-    (rw (factors s .v4) (s .pre .0 .v4), rw (cells-held s .v4) (s .pre .1 .v4), rw (word-back (b .through3 .result .out) w) w)
-
-through-requires-5 : tie.Need-through-requires-5
-through-requires-5 c κs =
-    let b = c .before .before .before in
-    let s = entry-4 b in
-    let w = word-4 b in
-    (rw (factors s .v3) (s .pre .0 .v3), rw (cells-held s .v3) (s .pre .1 .v3), rw (word-back (b .through4 .result .out) w) w)
-
-through-requires-6 : tie.Need-through-requires-6
-through-requires-6 c κs =
-    let b = c .before .before .before in
-    let s = entry-5 b in
-    let w = word-5 b in
-    (rw (factors s .v2) (s .pre .0 .v2), rw (cells-held s .v2) (s .pre .1 .v2), rw (word-back (b .through5 .result .out) w) w)
-
-through-requires-7 : tie.Need-through-requires-7
-through-requires-7 c κs =
-    let b = c .before .before .before in
-    let s = entry-6 b in
-    let w = word-6 b in
-    (rw (factors s .v1) (s .pre .0 .v1), rw (cells-held s .v1) (s .pre .1 .v1), rw (word-back (b .through6 .result .out) w) w)
-
-through-requires-8 : tie.Need-through-requires-8
-through-requires-8 c κs =
-    let b = c .before .before .before in
-    let s = entry-7 b in
-    let w = word-7 b in
-    (rw (factors s .v0) (s .pre .0 .v0), rw (cells-held s .v0) (s .pre .1 .v0), rw (word-back (b .through7 .result .out) w) w)
+    (factors s .v7, words s .v7, rw (back (s .fits .wt)) (s .pre .2))
 
 -- ---- all of them
 
-abbrev sri : tie.After-through8 → Line
-sri c =
-    let c7 = c .before .before .before .before in
-    let c6 = c7 .before .before .before .before in
-    let c5 = c6 .before .before .before .before in
-    let c4 = c5 .before .before .before .before in
-    let c3 = c4 .before .before .before .before in
-    let c2 = c3 .before .before .before .before in
-    let c1 = c2 .before .before .before .before in
-    record {
-      v0 = mem w32 (c .through8 .result .out);
-      v1 = mem w32 (c7 .through7 .result .out);
-      v2 = mem w32 (c6 .through6 .result .out);
-      v3 = mem w32 (c5 .through5 .result .out);
-      v4 = mem w32 (c4 .through4 .result .out);
-      v5 = mem w32 (c3 .through3 .result .out);
-      v6 = mem w32 (c2 .through2 .result .out);
-      v7 = mem w32 (c1 .through .result .out);
-    }
-
-abbrev after : tie.After-through8 → Line
-after c =
-    let c7 = c .before .before .before .before in
-    let c6 = c7 .before .before .before .before in
-    let c5 = c6 .before .before .before .before in
-    let c4 = c5 .before .before .before .before in
-    let c3 = c4 .before .before .before .before in
-    let c2 = c3 .before .before .before .before in
-    record {
-      v0 = mem w32 (c .through8 .result .out);
-      v1 = mem w32 (c .through8 .result .above);
-      v2 = mem w32 (c7 .through7 .result .above);
-      v3 = mem w32 (c6 .through6 .result .above);
-      v4 = mem w32 (c5 .through5 .result .above);
-      v5 = mem w32 (c4 .through4 .result .above);
-      v6 = mem w32 (c3 .through3 .result .above);
-      v7 = mem w32 (c2 .through2 .result .above);
-    }
-
-sections : (c : tie.After-through8) → let s = entry-8 c in Sections (s .args .r) (s .args .v) (s .args .wt) (sri c) (after c)
-sections c =
-    let c7 = c .before .before .before .before in
+returns : tie.Need-returns
+returns c =
+    let read : tie.After-struct-told27 = c .before .before .before in
+    let c8 : tie.After-through8 = read .before .before .before .before in
+    let c7 = c8 .before .before .before .before in
     let c6 = c7 .before .before .before .before in
     let c5 = c6 .before .before .before .before in
     let c4 = c5 .before .before .before .before in
@@ -170,42 +58,28 @@ sections c =
     let c2 = c3 .before .before .before .before in
     let c1 = c2 .before .before .before .before in
     let s = entry-1 c1 in
-    record {
-      s7 = out-is (factors s .v7) (cells-held s .v7) (back (s .fits .wt)) (c1 .through .ensures .0);
-      s6 = out-is (factors s .v6) (cells-held s .v6) refl (c2 .through2 .ensures .0);
-      s5 = out-is (factors s .v5) (cells-held s .v5) refl (c3 .through3 .ensures .0);
-      s4 = out-is (factors s .v4) (cells-held s .v4) refl (c4 .through4 .ensures .0);
-      s3 = out-is (factors s .v3) (cells-held s .v3) refl (c5 .through5 .ensures .0);
-      s2 = out-is (factors s .v2) (cells-held s .v2) refl (c6 .through6 .ensures .0);
-      s1 = out-is (factors s .v1) (cells-held s .v1) refl (c7 .through7 .ensures .0);
-      s0 = out-is (factors s .v0) (cells-held s .v0) refl (c .through8 .ensures .0);
-      u0 = refl;
-      u1 = above-is (factors s .v0) (cells-held s .v0) refl (c .through8 .ensures .0) (c .through8 .ensures .1);
-      u2 = above-is (factors s .v1) (cells-held s .v1) refl (c7 .through7 .ensures .0) (c7 .through7 .ensures .1);
-      u3 = above-is (factors s .v2) (cells-held s .v2) refl (c6 .through6 .ensures .0) (c6 .through6 .ensures .1);
-      u4 = above-is (factors s .v3) (cells-held s .v3) refl (c5 .through5 .ensures .0) (c5 .through5 .ensures .1);
-      u5 = above-is (factors s .v4) (cells-held s .v4) refl (c4 .through4 .ensures .0) (c4 .through4 .ensures .1);
-      u6 = above-is (factors s .v5) (cells-held s .v5) refl (c3 .through3 .ensures .0) (c3 .through3 .ensures .1);
-      u7 = above-is (factors s .v6) (cells-held s .v6) refl (c2 .through2 .ensures .0) (c2 .through2 .ensures .1);
-    }
-
-returns : tie.Need-returns
-returns c =
-    let read : tie.After-struct-told27 = c .before .before .before in
-    let t : tie.After-through8 = read .before .before .before .before in
-    let s = entry-8 t in
-    sections-are (s .args .r) (s .args .v) (s .args .wt) (sri t) (after t) (sections t)
+    let r = all-from (λ z. z) factor-back (s .args .r) (s .pre .0) in
+    let v = all-from (λ z. z) word-back (s .args .v) (s .pre .1) in
+    sections-are (s .args .r) (s .args .v) (s .args .wt)
+    (passed (r .v7) (v .v7) (back (s .fits .wt)) (c1 .through .ensures) .out)
+    (passed (r .v6) (v .v6) refl (c2 .through2 .ensures))
+    (passed (r .v5) (v .v5) refl (c3 .through3 .ensures))
+    (passed (r .v4) (v .v4) refl (c4 .through4 .ensures))
+    (passed (r .v3) (v .v3) refl (c5 .through5 .ensures))
+    (passed (r .v2) (v .v2) refl (c6 .through6 .ensures))
+    (passed (r .v1) (v .v1) refl (c7 .through7 .ensures))
+    (passed (r .v0) (v .v0) refl (c8 .through8 .ensures))
 
 pub limited-spec : {M : Type 1} → statement M
 limited-spec =
     tie.close
     (tie.spec
-    through-requires
-    through-requires-2
-    through-requires-3
-    through-requires-4
-    through-requires-5
-    through-requires-6
-    through-requires-7
-    through-requires-8
+    first-requires
+    (λ c κs. let b = c .before .before .before in (factors (entry-1 b) .v6, words (entry-1 b) .v6, passed-word (b .through .ensures)))
+    (λ c κs. let b = c .before .before .before in (factors (entry-2 b) .v5, words (entry-2 b) .v5, passed-word (b .through2 .ensures)))
+    (λ c κs. let b = c .before .before .before in (factors (entry-3 b) .v4, words (entry-3 b) .v4, passed-word (b .through3 .ensures)))
+    (λ c κs. let b = c .before .before .before in (factors (entry-4 b) .v3, words (entry-4 b) .v3, passed-word (b .through4 .ensures)))
+    (λ c κs. let b = c .before .before .before in (factors (entry-5 b) .v2, words (entry-5 b) .v2, passed-word (b .through5 .ensures)))
+    (λ c κs. let b = c .before .before .before in (factors (entry-6 b) .v1, words (entry-6 b) .v1, passed-word (b .through6 .ensures)))
+    (λ c κs. let b = c .before .before .before in (factors (entry-7 b) .v0, words (entry-7 b) .v0, passed-word (b .through7 .ensures)))
     returns)

@@ -17,10 +17,11 @@ use Rattle.math_lists.specs.Scan.{Along, along-start, along-next, along-end}
 use Rattle.standard.specs.Tables.{_at_}
 use Rattle.standard.specs.Decoder.{synthesised, de-emphasis, srop}
 use Rattle.law_arithmetic.specs.Within.{word, word-is, word-yes}
+use Rattle.short_ratios.specs.Bounds.{factor}
 use Rattle.short_synthesis.specs.Speech.{sounded, voiced, voiced-is, paired-length, paired-at}
 use Rattle.short_synthesis.specs.declared.Line.{Line}
-use Rattle.short_synthesis.specs.Lattice.{cells, factor, Each, each-yes, each-all, widened, widened-fits, after-words}
-use Rattle.short_synthesis.specs.Lattice.{emphasised-word, turn-is, factors-all}
+use Rattle.short_synthesis.specs.Lattice.{cells, Each, each-yes, widened, widened-fits, after-words}
+use Rattle.short_synthesis.specs.Lattice.{emphasised-word, turn-is}
 use Rattle.short_synthesis.specs.Biased.{base, low, lifted-back, sample-fits, sample-is}
 use Rattle.short_synthesis.proofs.stretch.Statement.{statement}
 use Rattle.short_synthesis.proofs.stretch.Tie as tie
@@ -59,11 +60,7 @@ start b = spread-at b .before .before
 
 -- the coefficients are factors
 factors : (c : tie.After-spread Inv-loop μ-loop Inv-loop2 μ-loop2) → Each factor (c .spread .result)
-factors c =
-    let s = c .before .before in
-    let r = c .spread in
-    let words = rw (r .ensures .0) at (each-all word (r .result) (r .ensures .1)) in
-    each-yes factor (r .result) (rw (r .ensures .0) (factors-all (s .args .rrp) (s .pre .1) words))
+factors c = each-yes factor (c .spread .result) (rw (c .spread .ensures .0) (c .before .before .pre .1))
 
 -- msr at the start is a word
 msr-fits : (c : Begun) → SFits w16 (start c .args .s .msr)

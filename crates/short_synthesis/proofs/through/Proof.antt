@@ -28,10 +28,11 @@ returns c =
     let l = o .before in
     let s = l .before in
     let below = rw (back (s .fits .rrp), back (s .fits .v), back (s .fits .sri)) at (l .lowered .ensures) in
-    let above = rw (back (s .fits .rrp), back (s .fits .v)) at (r .raised .ensures) in (
-      res (o .clipped) ∙ (o .clipped .ensures ∙ ap (clip w16) (res (l .lowered) ∙ below)),
-      res (c .clipped2) ∙ (c .clipped2 .ensures ∙ ap (clip w16) (res (r .raised) ∙ above)),
-    )
+    let above = rw (back (s .fits .rrp), back (s .fits .v)) at (r .raised .ensures) in
+    record {
+      out = res (o .clipped) ∙ (o .clipped .ensures ∙ ap (clip w16) (res (l .lowered) ∙ below));
+      above = res (c .clipped2) ∙ (c .clipped2 .ensures ∙ ap (clip w16) (res (r .raised) ∙ above));
+    }
 
 pub through-spec : {M : Type 1} → statement M
 through-spec = tie.close (tie.spec lowered-requires (λ c κs. search needs) raised-requires (λ c κs. search needs) returns)
