@@ -46,7 +46,7 @@ abbrev pub pulse : Amplitude → ℤ → ℤ
 pulse a xM = add (mult (shl w16 xM (sub (pos 6) (a .exp))) (NRFAC at a .mant) >> 12) (pos 4)
 
 -- the shift of the greatest xmax that has code c loses nothing, and its product with NRFAC stays below 16384 · 32768
-pub record Headroom (c : ℕ) : Type 0 where
+pub record ShiftRoom (c : ℕ) : Type 0 where
   pub shift : ℕ
   factor : ℕ
   pub shift-is : sub (pos 6) (amplitude (pos c) .exp) ≡ pos shift
@@ -69,7 +69,7 @@ unfolding every tab has-room amplitude mantissa first minus clip NRFAC
 rooms = refl
 
 -- so it holds for each code
-pub room : (c : ℕ) → c < 64 → Headroom c
+pub room : (c : ℕ) → c < 64 → ShiftRoom c
 unfolding has-room
 room c h =
     let a = amplitude (pos c) in

@@ -15,4 +15,5 @@ abbrev μ-loop : tie.MeasureT-loop
 
 pub turns-spec : {M : Type 1} → statement M
 turns-spec =
-    tie.close (by-8 (tie.spec Inv-loop μ-loop (search needs) (λ c κs. search needs)) (search needs) (search needs) (search needs) (search needs))
+    tie.close
+    (by-8 (tie.spec Inv-loop μ-loop (search needs) (λ c κs. search needs)) (search needs) (search needs) (search needs) (search needs))
