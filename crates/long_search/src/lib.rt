@@ -39,7 +39,7 @@ fn scal(d: &[i16]) -> i16
     let temp = if dmax == 0 {
         0
     } else {
-        op_longs::norm((dmax as i32) << 16)
+        op_shifts::norm((dmax as i32) << 16)
     };
     if 6 < temp { 0 } else { op_words::sub(6, temp) }
 }
@@ -137,7 +137,7 @@ fn gain(lmax: i32, lpower: i32) -> usize
     if lpower <= lmax {
         return 3;
     }
-    let temp = op_longs::norm(lpower);
+    let temp = op_shifts::norm(lpower);
     level(
         op_shifts::normalized(temp, lmax),
         op_shifts::normalized(temp, lpower),

@@ -18,7 +18,7 @@ pub fn scalauto(s: &[i16]) -> i16
     if smax == 0 {
         0
     } else {
-        op_words::sub(4, op_longs::norm((smax as i32) << 16))
+        op_words::sub(4, op_shifts::norm((smax as i32) << 16))
     }
 }
 

@@ -34,7 +34,7 @@ fn acf(l_acf: [i32; 9]) -> [i16; 9]
     requires { ⌜ ltZ (pos 0) («l_acf» at 0) ≡ true ⌝ }
     ensures { λ r. ⌜ r ≡ lpc.ACF «l_acf» ⌝ }
 {
-    let temp = op_longs::norm(l_acf[0]);
+    let temp = op_shifts::norm(l_acf[0]);
     let mut acf = [0i16; 9];
     for i in 0..9usize {
         acf[i] = op_shifts::normalized(temp, l_acf[i]);

@@ -1,11 +1,12 @@
-// 4.1: both shifts, of a word and of a long word. A right shift rounds down. A left shift keeps the low bits. A
-// negative count shifts in the other direction.
+// 4.1: both shifts, of a word and of a long word, and norm, the count of a shift. A right shift rounds down. A left
+// shift keeps the low bits. A negative count shifts in the other direction.
 ghost use mathlib.Core.Path.{_≡_};
+ghost use mathlib.Core.Bool.{true};
 ghost use Prim.Native.Nat.{_^_};
-ghost use lib.IntN.{natAbs};
-ghost use lib.Signed.{shrZ};
+ghost use lib.IntN.{pos, natAbs};
+ghost use lib.Signed.{ltZ, shrZ};
 ghost use mir.Syntax.{w16, w32};
-ghost use Rattle.standard.specs.Arithmetic.{up, shr, shl};
+ghost use Rattle.standard.specs.Arithmetic.{up, shr, shl, norm};
 ghost use Rattle.standard.specs.Lpc.{normalized};
 
 // The absolute value of a count.
@@ -96,4 +97,12 @@ pub fn normalized(n: i16, x: i32) -> i16
     ensures { λ r. ⌜ r ≡ normalized n x ⌝ }
 {
     (l_shl(x, n) >> 16) as i16
+}
+
+// How many left shifts a positive number needs to be 1073741824 or more: the count of its leading zeros, less 1.
+pub fn norm(a: i32) -> i16
+    requires { ⌜ ltZ (pos 0) a ≡ true ⌝ }
+    ensures { λ r. ⌜ r ≡ norm a ⌝ }
+{
+    (u32::leading_zeros(a as u32) - 1) as i16
 }

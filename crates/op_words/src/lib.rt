@@ -1,7 +1,6 @@
-// 4.1: the operations whose result is a word, and the conversions between a word and an index. Each promise is that the
+// 4.1: the operations whose result is a word, and a word as an index. Each promise is that the
 // result is the standard's, exact at the ends of the range.
 ghost use mathlib.Core.Path.{_≡_};
-ghost use lib.IntN.{pos};
 ghost use mir.Syntax.{w16};
 ghost use Rattle.math_integers.specs.Halves.{P};
 ghost use Rattle.standard.specs.Arithmetic.{clip, add, sub, mult, mult-r, abs, div};
@@ -78,11 +77,4 @@ pub fn place_of(n: i16) -> usize
     ensures { λ r. ⌜ r ≡ P n ⌝ }
 {
     if n < 0 { 0 } else { n as usize }
-}
-
-// An index or a count as a word; it saturates at 32767.
-pub fn word_of(n: usize) -> i16
-    ensures { λ r. ⌜ r ≡ clip w16 (pos n) ⌝ }
-{
-    if 32767 < n { 32767 } else { n as i16 }
 }

@@ -123,7 +123,7 @@ fn code(i: usize, j: usize) -> u8 {
 }
 
 fn value(i: usize, j: usize) -> i16 {
-    op_words::sub(op_words::word_of(32 * (i % 256) + j % 32), 4096)
+    op_words::sub((32 * (i % 256) + j % 32) as i16, 4096)
 }
 
 // The absolute value of a number. That of the least number does not fit an i32. So 1 is added before the sign is
@@ -147,7 +147,7 @@ fn print_long(n: i32) -> bool {
 }
 
 fn print_word(n: i16) -> bool {
-    print_long(op_longs::long_word(n))
+    print_long(test_longs::long_word(n))
 }
 
 // How a row begins, with its name and its first argument, and how it ends.
@@ -162,7 +162,7 @@ fn end_row() -> bool {
 // Only a positive number has a norm; for another nothing is printed.
 fn print_norm(n: i32) -> bool {
     if 0 < n {
-        print_word(op_longs::norm(n))
+        print_word(op_shifts::norm(n))
     } else {
         true
     }
@@ -177,8 +177,8 @@ fn print_item(list: List, i: usize) -> bool {
         List::Longs => print_long(x),
         List::Counts => print_word(count(i)),
         List::Abs => print_word(op_words::abs(a)),
-        List::LongWord => print_long(op_longs::long_word(a)),
-        List::LowWord => print_word(op_longs::low_word(x)),
+        List::LongWord => print_long(test_longs::long_word(a)),
+        List::LowWord => print_word(test_longs::low_word(x)),
         List::Norm => print_norm(x),
     }
 }
@@ -200,8 +200,8 @@ fn first(table: Table, i: usize) -> i32 {
     match table {
         Table::LAdd | Table::LSub | Table::LShr | Table::LShl => long(i),
         Table::Expand => code(i, 0) as i32,
-        Table::Compress => op_longs::long_word(value(i, 0)),
-        _ => op_longs::long_word(word(i)),
+        Table::Compress => test_longs::long_word(value(i, 0)),
+        _ => test_longs::long_word(word(i)),
     }
 }
 
@@ -214,19 +214,19 @@ fn cell(table: Table, i: usize, j: usize) -> i32 {
     let y = long(j);
     let n = count(j);
     match table {
-        Table::Add => op_longs::long_word(op_words::add(a, b)),
-        Table::Sub => op_longs::long_word(op_words::sub(a, b)),
-        Table::Mult => op_longs::long_word(op_words::mult(a, b)),
-        Table::MultR => op_longs::long_word(op_words::mult_r(a, b)),
-        Table::Div => op_longs::long_word(op_words::div(a, b)),
-        Table::LMult => op_longs::l_mult(a, b),
-        Table::LAdd => op_longs::l_add(x, y),
-        Table::LSub => op_longs::l_sub(x, y),
-        Table::Shr => op_longs::long_word(op_shifts::shr(a, n)),
-        Table::Shl => op_longs::long_word(op_shifts::shl(a, n)),
+        Table::Add => test_longs::long_word(op_words::add(a, b)),
+        Table::Sub => test_longs::long_word(op_words::sub(a, b)),
+        Table::Mult => test_longs::long_word(op_words::mult(a, b)),
+        Table::MultR => test_longs::long_word(op_words::mult_r(a, b)),
+        Table::Div => test_longs::long_word(op_words::div(a, b)),
+        Table::LMult => test_longs::l_mult(a, b),
+        Table::LAdd => test_longs::l_add(x, y),
+        Table::LSub => test_longs::l_sub(x, y),
+        Table::Shr => test_longs::long_word(op_shifts::shr(a, n)),
+        Table::Shl => test_longs::long_word(op_shifts::shl(a, n)),
         Table::LShr => op_shifts::l_shr(x, n),
         Table::LShl => op_shifts::l_shl(x, n),
-        Table::Expand => op_longs::long_word(pcm_alaw::expand(code(i, j))),
+        Table::Expand => test_longs::long_word(pcm_alaw::expand(code(i, j))),
         Table::Compress => pcm_alaw::compress(value(i, j)) as i32,
     }
 }

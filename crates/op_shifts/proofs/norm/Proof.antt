@@ -8,8 +8,8 @@ use mir.Syntax.{w32}
 use Rattle.math_integers.specs.Halves.{zar, know, mem}
 use Rattle.math_integers.specs.Ranges.{back}
 use Rattle.law_arithmetic.specs.Norm.{Normal, normal}
-use Rattle.op_longs.proofs.norm.Statement.{statement}
-use Rattle.op_longs.proofs.norm.Tie as tie
+use Rattle.op_shifts.proofs.norm.Statement.{statement}
+use Rattle.op_shifts.proofs.norm.Tie as tie
 
 normed : (c : tie.Start) → Normal (c .args .a)
 normed c = normal (c .args .a) (c .pre) (c .fits .a)

@@ -8,8 +8,8 @@ use Rattle.math_integers.specs.Sums.{add-is, minus-is}
 use Rattle.math_integers.specs.Ranges.{back}
 use Rattle.law_arithmetic.specs.Clip.{plus-clip, plus-plain}
 use Rattle.standard.specs.Arithmetic.{plus}
-use Rattle.op_longs.proofs.l_add.Statement.{statement}
-use Rattle.op_longs.proofs.l_add.Tie as tie
+use Rattle.test_longs.proofs.l_add.Statement.{statement}
+use Rattle.test_longs.proofs.l_add.Tie as tie
 
 low-limit : tie.Need-sub-if2
 low-limit c =

@@ -8,8 +8,8 @@ use Rattle.math_integers.specs.Sums.{add-is, minus-is}
 use Rattle.math_integers.specs.Ranges.{back}
 use Rattle.law_arithmetic.specs.Clip.{minus-clip, minus-plain}
 use Rattle.standard.specs.Arithmetic.{minus}
-use Rattle.op_longs.proofs.l_sub.Statement.{statement}
-use Rattle.op_longs.proofs.l_sub.Tie as tie
+use Rattle.test_longs.proofs.l_sub.Statement.{statement}
+use Rattle.test_longs.proofs.l_sub.Tie as tie
 
 high-limit : tie.Need-add-if2
 high-limit c =

@@ -7,8 +7,8 @@ use Rattle.math_integers.specs.Sums.{add-is}
 use Rattle.math_integers.specs.Ranges.{zfits, back, product-in}
 use Rattle.law_arithmetic.specs.Clip.{clip-is, clip-plain}
 use Rattle.standard.specs.Arithmetic.{L-mult}
-use Rattle.op_longs.proofs.l_mult.Statement.{statement}
-use Rattle.op_longs.proofs.l_mult.Tie as tie
+use Rattle.test_longs.proofs.l_mult.Statement.{statement}
+use Rattle.test_longs.proofs.l_mult.Tie as tie
 
 mul-p : tie.Need-mul-p
 mul-p c = search zfits

@@ -8,8 +8,8 @@ use Rattle.math_integers.specs.Halves.{mem}
 use Rattle.math_integers.specs.Ranges.{wide, back}
 use Rattle.standard.specs.Arithmetic.{_>>_, keep}
 use Rattle.law_arithmetic.specs.Shift.{up-bits, keep-fits, low-word}
-use Rattle.op_longs.proofs.low_word.Statement.{statement}
-use Rattle.op_longs.proofs.low_word.Tie as tie
+use Rattle.test_longs.proofs.low_word.Statement.{statement}
+use Rattle.test_longs.proofs.low_word.Tie as tie
 
 there-and-back : (c : tie.Start) → mem w32 (toZ w32 ((ofZ w32 (c .args .a) * 65536) % 4294967296) >> 16) ≡ keep w16 (c .args .a)
 there-and-back c =

@@ -1,11 +1,9 @@
-// 4.1: the operations on long words. All is done on 32 bits: before a sum is made, one operand is compared with the
-// limit less the other operand.
+// 4.1: the operations on long words that no stage calls: the codec adds plainly, and its sums are proved to be these.
+// The program test_operations compares them with those of other codecs. All is done on 32 bits: before a sum is made,
+// one operand is compared with the limit less the other operand.
 ghost use mathlib.Core.Path.{_≡_};
-ghost use mathlib.Core.Bool.{true};
-ghost use lib.IntN.{pos};
-ghost use lib.Signed.{ltZ};
 ghost use mir.Syntax.{w16};
-ghost use Rattle.standard.specs.Arithmetic.{L-add, L-sub, L-mult, keep, norm};
+ghost use Rattle.standard.specs.Arithmetic.{L-add, L-sub, L-mult, keep};
 
 pub fn l_add(a: i32, b: i32) -> i32
     ensures { λ r. ⌜ r ≡ L-add a b ⌝ }
@@ -59,12 +57,4 @@ pub fn low_word(a: i32) -> i16
     ensures { λ r. ⌜ r ≡ keep w16 a ⌝ }
 {
     ((a << 16) >> 16) as i16
-}
-
-// The count of leading zeros of a positive number, less 1.
-pub fn norm(a: i32) -> i16
-    requires { ⌜ ltZ (pos 0) a ≡ true ⌝ }
-    ensures { λ r. ⌜ r ≡ norm a ⌝ }
-{
-    (u32::leading_zeros(a as u32) - 1) as i16
 }
