@@ -1,12 +1,12 @@
 -- House rules, 'Six sums' (c) and (d): the scaled d is at most 512 in size, the sum at each lag and the power at most 1342177280.
 use Prim.Native.Nat.{ℕ, _+_, _*_, _-_, _^_, _<_, _≤_}
-use mathlib.Core.Path.{_≡_, refl, sym, ap, _∙_}
+use mathlib.Core.Path.{_≡_, sym, ap, _∙_}
 use mathlib.Core.Bool.{true, false, cond}
-use mathlib.Core.List.{List, map, zipWith, foldl}
+use mathlib.Core.List.{List, zipWith, foldl}
 use mathlib.Core.Logic.{⊎-elim}
 use native.Mathlib.Omega.{arith}
 use native.Mathlib.Nat.{mul-le-mul-left, lt-of-mul-lt-mul-right}
-use lib.IntN.{ℤ, pos, negsuc, _+ℤ_, _*ℤ_, natAbs}
+use lib.IntN.{ℤ, pos, _+ℤ_, _*ℤ_, natAbs}
 use lib.ListN.{length, drop, length-map}
 use lib.Pow.{pow-add, pow-mono}
 use lib.Signed.{ltZ}
@@ -14,12 +14,10 @@ use mir.Syntax.{w16, w32}
 use mir.Val.{SFits}
 use borrow.Author.Tests.{le-leb, eqb-false}
 use Rattle.math_integers.specs.Halves.{P, N, zar, know, apart, abs-is, le-or-lt, either}
-use Rattle.math_integers.specs.Sums.{add-is, scale-is, minus-is}
-use Rattle.math_lists.specs.Every.{every, every-at, every-take, every-drop, every-places}
+use Rattle.math_integers.specs.Sums.{scale-is, minus-is}
+use Rattle.math_lists.specs.Every.{every, every-at, every-take, every-drop, every-places, every-map}
 use Rattle.math_lists.specs.First.{by-cond}
-use Rattle.math_lists.specs.Steps.{fold-keeps}
-use Rattle.math_lists.specs.Tab.{map-at, zip-at, zip-length}
-use Rattle.standard.specs.Arithmetic.{is-zero, within, up, _>>_, shl, shr, sub, norm, peak, L-mult, L-sum, L-squares}
+use Rattle.standard.specs.Arithmetic.{is-zero, within, up, _>>_, shl, shr, sub, norm, peak, L-mult, L-sum}
 use Rattle.standard.specs.Tables.{_at_}
 use Rattle.standard.specs.LongTerm.{back, scal, correlations, L-power}
 use Rattle.law_arithmetic.specs.Clip.{abs-clip, minus-clip}
@@ -28,8 +26,9 @@ use Rattle.law_arithmetic.specs.Shift.{down-in, shr-right}
 use Rattle.law_arithmetic.specs.Within.{within-yes, word, word-is}
 use Rattle.law_fields.specs.Amplitudes.{peak-halves, peak-up, peak-covers}
 use Rattle.law_lengths.specs.Subframes.{Lag, back-length}
-use Rattle.op_sums.specs.Room.{at-most, square-in, L-sum-steps, L-sum-plain, L-sum-in}
-use Rattle.long_search.specs.Search.{scaled, correlated-at, product-small}
+use Rattle.op_sums.specs.Room.{at-most, words-sized, sized-steps, sized-in}
+use Rattle.op_sums.specs.Squares.{shifted, squares-steps, squares-in}
+use Rattle.long_search.specs.Search.{scaled, correlated-at}
 
 -- ---- the scaling of d
 
@@ -110,33 +109,29 @@ module _ (d : List ℤ) where
       let (p, q) = down-in x n 512 (omega (arith, abs-is x)) (omega (arith, abs-is x)) in
       rw (scaling .is, shr-right w16 x (pos n) (omega zar), abs-is (x >> n)) (omega (arith, apart (x >> n)))
 
--- ---- the sum at each lag
+-- so, scaled, each of them is
+pub scaled-small : (d : List ℤ) → every word d ≡ true → every (at-most 512) (scaled d) ≡ true
+scaled-small d ws =
+    rw every-map (every-places _ d (pos 0) (λ i h. le-leb _ 512 (scal-small d i h (word-is (d at i) (every-at word d i (pos 0) ws h)))))
+
+-- ---- the sum and the power at each lag
 
 -- the words of dp at a lag
-back-word : (lag : ℕ) (dp : List ℤ) (i : ℕ) → every word dp ≡ true → i < length (back lag dp) → SFits w16 (back lag dp at i)
+back-words : (lag : ℕ) (dp : List ℤ) → every word dp ≡ true → every word (back lag dp) ≡ true
 unfolding back
-back-word lag dp i ws h =
-    let words = every-take word 40 (drop (120 - lag) dp) (every-drop word (120 - lag) dp ws) in
-    word-is (back lag dp at i) (every-at word (back lag dp) i (pos 0) words h)
+back-words lag dp ws = every-take word 40 (drop (120 - lag) dp) (every-drop word (120 - lag) dp ws)
 
 -- for all words d and dp of the lengths that 4.2.11 has, and each lag
 module _ (d dp : List ℤ) (ds : every word d ≡ true) (dps : every word dp ≡ true) (m : length d ≡ 40) (n : length dp ≡ 120)
     (lag : ℕ) (l : Lag lag) where
-  -- d, scaled, is at most 512 in size
-  scaled-small : every (at-most 512) (scaled d) ≡ true
-  scaled-small = every-places (at-most 512) (scaled d) (pos 0)
-      (λ i h. let g : i < length d = rw length-map at h in
-      rw (map-at (λ x. shr w16 x (scal d)) d i (pos 0) (pos 0) g)
-      (le-leb _ 512 (scal-small d i g (word-is (d at i) (every-at word d i (pos 0) ds g)))))
-
   scaled-length : length (scaled d) ≡ 40
   scaled-length = length-map d _ ∙ m
 
   same : length (scaled d) ≡ length (back lag dp)
   same = scaled-length ∙ sym (back-length lag dp l n)
 
-  each : (i : ℕ) → i < length (scaled d) → natAbs (scaled d at i *ℤ back lag dp at i) ≤ 16777216
-  each i h = product-small (scaled d) (back lag dp at i) i scaled-small h (back-word lag dp i dps (omega (arith, same)))
+  back-small : every (at-most 32768) (back lag dp) ≡ true
+  back-small = words-sized (back lag dp) (back-words lag dp dps)
 
   entry : correlations d dp at (lag - 40) ≡ L-sum (pos 0) (scaled d) (back lag dp)
   unfolding correlations
@@ -144,65 +139,31 @@ module _ (d dp : List ℤ) (ds : every word d ≡ true) (dps : every word dp ≡
       let e : 40 + (lag - 40) ≡ lag = omega (arith, l .least) in
       correlated-at (scaled d) dp (lag - 40) (omega (arith, l .most)) ∙ ap (λ (k : ℕ). L-sum (pos 0) (scaled d) (back k dp)) e
 
-  fits : length (scaled d) * 16777216 < 1073741824
-  fits = omega (arith, scaled-length)
-
   -- the sum at each lag is at most 1342177280 in size
   pub correlation-in : natAbs (correlations d dp at (lag - 40)) ≤ 1342177280
-  correlation-in = rw entry (omega (arith, scaled-length, L-sum-in (scaled d) (back lag dp) 16777216 same each fits))
+  correlation-in =
+      let s = scaled-length in
+      rw entry (omega (arith, sized-in 512 32768 (scaled d) (back lag dp) (scaled-small d ds) back-small same (omega arith)))
 
   -- and is the plain sum: no step saturates
   pub correlation-steps : correlations d dp at (lag - 40) ≡ foldl _+ℤ_ (pos 0) (zipWith L-mult (scaled d) (back lag dp))
-  correlation-steps = entry ∙ L-sum-steps (scaled d) (back lag dp) 16777216 same each fits
-
--- ---- the power
-
--- a square is not negative
-square-above : (x : ℤ) → N (x *ℤ x) ≡ 0
-square-above (pos n) = refl
-square-above (negsuc n) = refl
-
--- nor is a sum of squares
-squares-above : (xs : List ℤ) → N (foldl _+ℤ_ (pos 0) (zipWith _*ℤ_ xs xs)) ≡ 0
-squares-above xs =
-    fold-keeps _+ℤ_ (zipWith _*ℤ_ xs xs) (pos 0) (pos 0) (λ i s. N s ≡ 0) refl
-    (λ i s h e.
-    let k : i < length xs = omega (arith, zip-length _*ℤ_ xs xs) in
-    let t = zip-at _*ℤ_ xs xs i (pos 0) (pos 0) (pos 0) k k in
-    rw t (omega (arith, add-is s (xs at i *ℤ xs at i), square-above (xs at i))))
+  correlation-steps =
+      entry ∙ sized-steps 512 32768 (scaled d) (back lag dp) (scaled-small d ds) back-small same (omega (arith, scaled-length))
 
 -- for all words dp, and each lag
 module _ (dp : List ℤ) (dps : every word dp ≡ true) (n : length dp ≡ 120) (lag : ℕ) (l : Lag lag) where
-  -- dp at the lag, shifted right by 3
-  abbrev shifted : List ℤ
-  shifted = map (λ x. x >> 3) (back lag dp)
-
-  shifted-length : length shifted ≡ 40
-  shifted-length = length-map (back lag dp) _ ∙ back-length lag dp l n
-
-  square-small : (i : ℕ) → i < length shifted → natAbs (shifted at i *ℤ shifted at i) ≤ 16777216
-  square-small i h =
-      let g : i < length (back lag dp) = rw length-map at h in
-      rw (map-at (λ x. x >> 3) (back lag dp) i (pos 0) (pos 0) g) (square-in 3 (back lag dp at i) (omega arith) (back-word lag dp i dps g))
-
-  room : length shifted * 16777216 < 1073741824
-  room = omega (arith, shifted-length)
+  room : length (back lag dp) * 16777216 < 1073741824
+  room = omega (arith, back-length lag dp l n)
 
   -- L_power is from 0 to 1342177280
   pub power-in : within (pos 0) (pos 1342177280) (L-power lag dp) ≡ true
-  unfolding L-power L-squares
-  power-in =
-      let s = foldl _+ℤ_ (pos 0) (zipWith _*ℤ_ shifted shifted) in
-      let e = L-sum-plain shifted shifted 16777216 refl square-small room in
-      let b = L-sum-in shifted shifted 16777216 refl square-small room in
-      within-yes (pos 0) (pos 1342177280) (L-sum (pos 0) shifted shifted)
-      (rw e (omega (zar, add-is s s, squares-above shifted)))
-      (omega (zar, shifted-length, abs-is (L-sum (pos 0) shifted shifted)))
+  unfolding L-power
+  power-in = squares-in 3 (back lag dp) (omega arith) (back-words lag dp dps) room 1342177280 (omega (arith, back-length lag dp l n))
 
   -- and is the plain sum: no step saturates
-  pub power-steps : L-power lag dp ≡ foldl _+ℤ_ (pos 0) (zipWith L-mult shifted shifted)
-  unfolding L-power L-squares
-  power-steps = L-sum-steps shifted shifted 16777216 refl square-small room
+  pub power-steps : let wt = shifted 3 (back lag dp) in L-power lag dp ≡ foldl _+ℤ_ (pos 0) (zipWith L-mult wt wt)
+  unfolding L-power
+  power-steps = squares-steps 3 (back lag dp) (omega arith) (back-words lag dp dps) room
 
 -- ---- the gain
 

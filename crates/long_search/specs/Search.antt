@@ -6,19 +6,17 @@ use mathlib.Core.List.{List, map}
 use native.Mathlib.Omega.{arith}
 use lib.IntN.{ℤ, pos, _+ℤ_, _*ℤ_, natAbs}
 use lib.ListN.{length, take, drop, length-take, length-drop}
-use lib.Seq.{getD-take, take-all, drop-drop}
+use lib.Seq.{take-all, drop-drop}
 use mir.Syntax.{w16, w32}
 use mir.Val.{SFits}
-use borrow.Author.Tests.{leb-true}
-use Rattle.math_integers.specs.Halves.{zar, know, abs-is}
-use Rattle.math_integers.specs.Sums.{add-is, mul-in}
-use Rattle.math_lists.specs.Every.{every, every-at, every-drop}
+use Rattle.math_integers.specs.Halves.{zar, abs-is}
+use Rattle.math_lists.specs.Every.{every, every-take, every-drop}
 use Rattle.math_lists.specs.Tab.{tab, tab-at}
 use Rattle.standard.specs.Arithmetic.{shr, sub, L-sum}
 use Rattle.standard.specs.LongTerm.{back, scal, lag-search, Nc, L-power, bc}
 use Rattle.standard.specs.Tables.{_at_}
-use Rattle.law_arithmetic.specs.Within.{word, word-is}
-use Rattle.op_sums.specs.Room.{at-most, Room, L-sum-in}
+use Rattle.law_arithmetic.specs.Within.{word}
+use Rattle.op_sums.specs.Room.{at-most, Room, words-sized, sized-product, sized-room, sized-in}
 use Rattle.op_sums.specs.Split.{L-sum-parts}
 
 -- wt[0..39]: d, scaled
@@ -61,49 +59,38 @@ last-at wt dp a = L-sum (pos 0) (take 8 (drop 32 wt)) (take 8 (drop (32 + a) dp)
 abbrev pub lasts : List ℤ → List ℤ → List ℤ
 lasts wt dp = tab (last-at wt dp) 0 81
 
--- the product of an element of wt, which is at most 512 in size, and a word
-pub product-small : (wt : List ℤ) (y : ℤ) (i : ℕ)
-    → every (at-most 512) wt ≡ true → i < length wt → SFits w16 y → natAbs (wt at i *ℤ y) ≤ 16777216
-product-small wt y i e h f =
-    let x = wt at i in
-    let s : natAbs x ≤ 512 = leb-true (natAbs x) 512 (every-at (at-most 512) wt i (pos 0) e h) in
-    rw (abs-is (x *ℤ y)) (mul-in 512 32768 x y (omega (arith, abs-is x)) (omega (arith, know f)))
+module _ (wt dp : List ℤ) (m : length wt ≡ 40) (n : length dp ≡ 120) (e : every (at-most 512) wt ≡ true) (w : every word dp ≡ true) where
+  dp-small : (a : ℕ) → every (at-most 32768) (drop a dp) ≡ true
+  dp-small a = every-drop (at-most 32768) a dp (words-sized dp w)
 
--- so the products of up to 40 of them with as many words can be added on 32 bits
-pub part-room : (xs ds : List ℤ) → length xs ≡ length ds → length xs ≤ 40 → every (at-most 512) xs ≡ true → Room xs ds
-part-room xs ds l n e =
-    record {
-      same = l;
-      most = 16777216;
-      each = λ i h f g. product-small xs (ds at i) i e h g;
-      fits = omega arith;
-    }
+  -- k products, from index i of wt and index a of dp on, can be added on 32 bits
+  pub part-room : (k i a : ℕ) → i + k ≤ 40 → a + k ≤ 120 → Room (take k (drop i wt)) (take k (drop a dp))
+  part-room k i a h g =
+      let l : length (take k (drop i wt)) ≡ k = simp (length-take, length-drop) (omega arith) in
+      let r : length (take k (drop a dp)) ≡ k = simp (length-take, length-drop) (omega arith) in
+      sized-room 512 32768 _ _ (every-take (at-most 512) k (drop i wt) (every-drop (at-most 512) i wt e))
+      (every-take (at-most 32768) k (drop a dp) (dp-small a)) (l ∙ sym r) (omega arith)
 
--- if dp are words, the sum at the lag 120 − a is that of the first 32 plus that of the last 8
-module _ (wt dp : List ℤ) (a : ℕ) (m : length wt ≡ 40) (n : length dp ≡ 120) (e : every (at-most 512) wt ≡ true) (w : every word dp ≡ true)
-    (h : a ≤ 80) where
-  abbrev ds : List ℤ
-  ds = drop a dp
+  -- the sum at the lag 120 − a is that of the first 32 plus that of the last 8
+  module _ (a : ℕ) (h : a ≤ 80) where
+    abbrev ds : List ℤ
+    ds = drop a dp
 
-  ds-word : (i : ℕ) → i < 40 → SFits w16 (ds at i)
-  ds-word i k = word-is (ds at i) (every-at word ds i (pos 0) (every-drop word a dp w) (omega (arith, length-drop a dp)))
+    pub lag-split : L-sum (pos 0) (take 32 wt) (take 32 ds) +ℤ last-at wt dp a ≡ L-sum (pos 0) wt (take 40 ds)
+    lag-split =
+        let q : a + 32 ≡ 32 + a = omega arith in
+        let k : drop 32 ds ≡ drop (32 + a) dp = drop-drop 32 a dp ∙ ap (λ (i : ℕ). drop i dp) q in
+        let t : wt ≡ take 40 wt = sym (take-all 40 wt (omega arith)) in
+        let l : 40 ≤ length ds = omega (arith, length-drop a dp) in
+        let each : (i : ℕ) → i < 40 → natAbs (wt at i *ℤ ds at i) ≤ 16777216 =
+        λ i g. sized-product 512 32768 wt ds e (dp-small a) i (omega arith) (omega arith) in
+        let parts = L-sum-parts 32 8 wt ds 16777216 (omega arith) l each (omega arith) in
+        sym (ap (λ (xs : List ℤ). L-sum (pos 0) xs (take 40 ds)) t ∙ (parts ∙ rw k refl))
 
-  each : (i : ℕ) → i < 40 → natAbs (wt at i *ℤ ds at i) ≤ 16777216
-  each i k = product-small wt (ds at i) i e (omega arith) (ds-word i k)
-
-  pub lag-split : L-sum (pos 0) (take 32 wt) (take 32 ds) +ℤ last-at wt dp a ≡ L-sum (pos 0) wt (take 40 ds)
-  lag-split =
-      let q : a + 32 ≡ 32 + a = omega arith in
-      let k : drop 32 ds ≡ drop (32 + a) dp = drop-drop 32 a dp ∙ ap (λ (i : ℕ). drop i dp) q in
-      let t : wt ≡ take 40 wt = sym (take-all 40 wt (omega arith)) in
-      let parts = L-sum-parts 32 8 wt ds 16777216 (omega arith) (omega (arith, length-drop a dp)) each (omega arith) in
-      sym (ap (λ (xs : List ℤ). L-sum (pos 0) xs (take 40 ds)) t ∙ (parts ∙ rw k refl))
-
-  -- which fits
-  pub lag-fits : SFits w32 (L-sum (pos 0) (take 32 wt) (take 32 ds) +ℤ last-at wt dp a)
-  lag-fits =
-      let xs = take 40 ds in
-      let l : length xs ≡ 40 = simp (length-take, length-drop) (omega arith) in
-      let small : (i : ℕ) → i < length wt → natAbs (wt at i *ℤ xs at i) ≤ 16777216 =
-      λ i q. rw (getD-take 40 ds i (pos 0) (omega arith)) (each i (omega arith)) in
-      rw lag-split (omega (zar, m, L-sum-in wt xs 16777216 (m ∙ sym l) small (omega arith), abs-is (L-sum (pos 0) wt xs)))
+    -- which fits
+    pub lag-fits : SFits w32 (L-sum (pos 0) (take 32 wt) (take 32 ds) +ℤ last-at wt dp a)
+    lag-fits =
+        let xs = take 40 ds in
+        let l : length xs ≡ 40 = simp (length-take, length-drop) (omega arith) in
+        let b = sized-in 512 32768 wt xs e (every-take (at-most 32768) 40 ds (dp-small a)) (m ∙ sym l) (omega arith) in
+        rw lag-split (omega (zar, m, b, abs-is (L-sum (pos 0) wt xs)))

@@ -70,7 +70,8 @@ pub fn each_a_word(s: &[i16])
 // The sum of the last 8 of the 40 products, at each index of dp where a lag starts. The compiler makes vector code for
 // 8 products and for 32, but not for 40. That 32 and 8 are the 40 is `lag-split` (specs/Search).
 fn lasts(wt: &[i16], dp: &[i16]) -> [i32; 81]
-    requires { ⌜ (length (now wt) ≡ 40) × ((length (now dp) ≡ 120) × (every (at-most 512) (now wt) ≡ true)) ⌝ }
+    requires { ⌜ ((length (now wt) ≡ 40) × (length (now dp) ≡ 120))
+        × ((every (at-most 512) (now wt) ≡ true) × (every word (now dp) ≡ true)) ⌝ }
     ensures { λ r. ⌜ r ≡ lasts (now (wt .entry)) (now (dp .entry)) ⌝ }
 {
     let mut last = [0i32; 81];
@@ -82,7 +83,7 @@ fn lasts(wt: &[i16], dp: &[i16]) -> [i32; 81]
 
 // The lags from 40 to 120, upwards: at each the first 32 products and the last 8.
 fn lag_search(wt: &[i16], dp: &[i16]) -> Search
-    requires { ⌜ (length (now wt) ≡ 40) × ((length (now dp) ≡ 120) × (every (at-most 512) (now wt) ≡ true)) ⌝ }
+    requires { ⌜ ((length (now wt) ≡ 40) × (length (now dp) ≡ 120)) × (every (at-most 512) (now wt) ≡ true) ⌝ }
     ensures lag { λ r. ⌜ r .lag ≡ 40 + best (correlated (now (wt .entry)) (now (dp .entry))) .at ⌝ }
     ensures sum { λ r. ⌜ r .sum ≡ best (correlated (now (wt .entry)) (now (dp .entry))) .sum ⌝ }
     ensures positive { λ r. ⌜ r .positive ≡ ltZ (pos 0) (best (correlated (now (wt .entry)) (now (dp .entry))) .sum) ⌝ }

@@ -1,15 +1,14 @@
 -- For a loop that adds products: what the sum is after i of them, and what it is at the end.
 use Prim.Native.Nat.{ℕ, suc, _+_, _*_, _<_, _≤_}
 use mathlib.Core.Path.{_≡_, refl, sym, ap, _∙_}
-use mathlib.Core.Logic.{⊎-elim}
 use mathlib.Core.List.{List, zipWith, foldl}
-use native.Mathlib.Nat.{mul-le-mul-right, eq-or-lt-of-le, le-of-suc-le-suc}
-use native.Mathlib.Numerals.{add-one}
+use native.Mathlib.Nat.{mul-le-mul-right}
 use native.Mathlib.Omega.{arith}
 use lib.IntN.{ℤ, pos, _+ℤ_, _*ℤ_, natAbs}
 use lib.ListN.{length, drop}
 use mir.Syntax.{w32}
 use mir.Val.{SFits}
+use borrow.Author.Count.{below-none, below-more}
 use Rattle.math_integers.specs.Halves.{zar, apart, abs-is}
 use Rattle.math_integers.specs.Sums.{add-is}
 use Rattle.math_lists.specs.Steps.{fold-next, fold-end}
@@ -27,7 +26,7 @@ module _ (a b : List ℤ) (most : ℕ) where
 
   -- before the loop
   pub sum-start : Sum 0 (pos 0)
-  sum-start = record { rest = refl; near = omega arith; each = λ j h. absurd (omega arith) }
+  sum-start = record { rest = refl; near = omega arith; each = below-none _ }
 
   module _ (l : length a ≡ length b) (f : length a * most < 1073741824) {i : ℕ} {s : ℤ} (h : Sum i s) where
     -- an iteration: the sum with one more product fits
@@ -49,7 +48,7 @@ module _ (a b : List ℤ) (most : ℕ) where
           record {
             rest = rw one (h .rest);
             near = omega (zar, h .near, abs-is s, abs-is p, abs-is (s +ℤ p), add-is s p, apart (s +ℤ p));
-            each = λ j q. ⊎-elim (λ u. rw u (rw e at g)) (h .each j) (eq-or-lt-of-le (le-of-suc-le-suc (rw add-one at q)));
+            each = below-more _ _ (h .each) (rw e at g);
           }
 
     -- after the loop: the double is a long word, and is the standard's sum

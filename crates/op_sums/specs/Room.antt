@@ -1,7 +1,7 @@
 -- Where the sum of the products of two lists cannot saturate: no step of it reaches the limit, so it is the plain sum, doubled once.
-use Prim.Native.Nat.{ℕ, _+_, _*_, _-_, _^_, _<_, _≤_}
+use Prim.Native.Nat.{ℕ, _+_, _*_, _<_, _≤_}
 use mathlib.Core.Path.{_≡_, refl, sym, ap, _∙_}
-use mathlib.Core.Bool.{Bool}
+use mathlib.Core.Bool.{Bool, true}
 use mathlib.Core.List.{List, [], _∷_, zipWith, foldl}
 use native.Mathlib.Omega.{arith}
 use native.Mathlib.Nat.{mul-le-mul-right, zero-add}
@@ -11,15 +11,16 @@ use lib.ListN.{length}
 use lib.Seq.{ext-getD}
 use mir.Syntax.{w16, w32}
 use mir.Val.{SFits}
-use lib.Pow.{pow-add}
-use Rattle.math_integers.specs.Halves.{P, N, zar, know, apart, abs-is}
+use borrow.Author.Tests.{leb-true, le-leb}
+use Rattle.math_integers.specs.Halves.{zar, know, apart, abs-is}
 use Rattle.math_integers.specs.Sums.{add-is, mul-in}
+use Rattle.math_lists.specs.Every.{every, every-at, every-so}
 use Rattle.math_lists.specs.Tab.{zip-at, zip-length}
-use Rattle.standard.specs.Arithmetic.{_>>_, L-mult, L-sum}
+use Rattle.standard.specs.Arithmetic.{L-mult, L-sum}
 use Rattle.standard.specs.Tables.{_at_}
 use Rattle.law_arithmetic.specs.Clip.{clip-plain}
-use Rattle.law_arithmetic.specs.Shift.{down-in}
 use Rattle.law_arithmetic.specs.Sum.{sum-in, sum-plain}
+use Rattle.law_arithmetic.specs.Within.{word, word-is}
 
 -- of a size up to b
 abbrev pub at-most : ℕ → ℤ → Bool
@@ -31,17 +32,6 @@ pub record Room (a b : List ℤ) : Type 0 where
   pub most : ℕ
   pub each : (i : ℕ) → i < length a → SFits w16 (a at i) → SFits w16 (b at i) → natAbs (a at i *ℤ b at i) ≤ most
   pub fits : length a * most < 1073741824
-
--- the square of a word that was shifted right by n
-pub square-in : (n : ℕ) (x : ℤ) → n ≤ 15 → SFits w16 x → natAbs ((x >> n) *ℤ (x >> n)) ≤ 2 ^ (15 - n) * 2 ^ (15 - n)
-square-in n x h f =
-    let b = 2 ^ (15 - n) in
-    let e : n + (15 - n) ≡ 15 = omega arith in
-    let p : 2 ^ n * b ≡ 32768 = sym (pow-add 2 n (15 - n)) ∙ ap (λ (k : ℕ). 2 ^ k) e in
-    let (u, v) = down-in x n b (omega (arith, know f)) (omega (arith, know f)) in
-    let y = x >> n in
-    let z : P y + N y ≤ b = omega (arith, apart y) in
-    rw (abs-is (y *ℤ y)) (mul-in b b y y z z)
 
 -- twice a product
 abbrev twice : ℤ → ℤ → ℤ
@@ -82,8 +72,8 @@ module _ (a b : List ℤ) (most : ℕ) (l : length a ≡ length b) (e : (i : ℕ
       (λ i h. let g : i < length a = omega (arith, products-length) in
       product-is i g ∙ sym (zip-at twice a b i (pos 0) (pos 0) (pos 0) g (omega arith)))
 
-  product-in : (i : ℕ) → i < length (zipWith L-mult a b) → natAbs (zipWith L-mult a b at i) ≤ most + most
-  product-in i h =
+  term-in : (i : ℕ) → i < length (zipWith L-mult a b) → natAbs (zipWith L-mult a b at i) ≤ most + most
+  term-in i h =
       let g : i < length a = omega (arith, products-length) in
       let p = a at i *ℤ b at i in
       rw (product-is i g) (omega (zar, e i g, abs-is p, abs-is (p +ℤ p), add-is p p, apart (p +ℤ p)))
@@ -94,7 +84,7 @@ module _ (a b : List ℤ) (most : ℕ) (l : length a ≡ length b) (e : (i : ℕ
   -- nor does any step of the sum
   pub L-sum-steps : L-sum (pos 0) a b ≡ foldl _+ℤ_ (pos 0) (zipWith L-mult a b)
   unfolding L-sum
-  L-sum-steps = sum-plain w32 (most + most) 0 (zipWith L-mult a b) (pos 0) (omega arith) product-in room
+  L-sum-steps = sum-plain w32 (most + most) 0 (zipWith L-mult a b) (pos 0) (omega arith) term-in room
 
   -- so it is the plain sum, doubled
   pub L-sum-plain : let s = foldl _+ℤ_ (pos 0) (zipWith _*ℤ_ a b) in L-sum (pos 0) a b ≡ s +ℤ s
@@ -103,4 +93,40 @@ module _ (a b : List ℤ) (most : ℕ) (l : length a ≡ length b) (e : (i : ℕ
   -- and within twice its bound
   pub L-sum-in : natAbs (L-sum (pos 0) a b) ≤ length a * (most + most)
   unfolding L-sum
-  L-sum-in = rw (products-length, zero-add) at (sum-in w32 (most + most) 0 (zipWith L-mult a b) (pos 0) (omega arith) product-in room)
+  L-sum-in = rw (products-length, zero-add) at (sum-in w32 (most + most) 0 (zipWith L-mult a b) (pos 0) (omega arith) term-in room)
+
+-- ---- words of known sizes
+
+-- any word is at most 32768
+pub words-sized : (xs : List ℤ) → every word xs ≡ true → every (at-most 32768) xs ≡ true
+words-sized = every-so word (at-most 32768) (λ x h. le-leb (natAbs x) 32768 (omega (arith, know (word-is x h), abs-is x)))
+
+module _ (A B : ℕ) (a b : List ℤ) (p : every (at-most A) a ≡ true) (q : every (at-most B) b ≡ true) where
+  -- the product of two of them
+  pub sized-product : (i : ℕ) → i < length a → i < length b → natAbs (a at i *ℤ b at i) ≤ A * B
+  sized-product i h k =
+      let x = a at i in
+      let y = b at i in
+      let u : natAbs x ≤ A = leb-true _ A (every-at (at-most A) a i (pos 0) p h) in
+      let v : natAbs y ≤ B = leb-true _ B (every-at (at-most B) b i (pos 0) q k) in
+      rw (abs-is (x *ℤ y)) (mul-in A B x y (omega (arith, abs-is x, apart x)) (omega (arith, abs-is y, apart y)))
+
+  module _ (l : length a ≡ length b) (f : length a * (A * B) < 1073741824) where
+    each : (i : ℕ) → i < length a → natAbs (a at i *ℤ b at i) ≤ A * B
+    each i h = sized-product i h (omega arith)
+
+    -- the code may add them on 32 bits
+    pub sized-room : Room a b
+    sized-room = record { same = l; most = A * B; each = λ i h _ _. each i h; fits = f }
+
+    -- no step of the sum saturates
+    pub sized-steps : L-sum (pos 0) a b ≡ foldl _+ℤ_ (pos 0) (zipWith L-mult a b)
+    sized-steps = L-sum-steps a b (A * B) l each f
+
+    -- it is the plain sum, doubled
+    pub sized-plain : let s = foldl _+ℤ_ (pos 0) (zipWith _*ℤ_ a b) in L-sum (pos 0) a b ≡ s +ℤ s
+    sized-plain = L-sum-plain a b (A * B) l each f
+
+    -- and within twice its bound
+    pub sized-in : natAbs (L-sum (pos 0) a b) ≤ length a * (A * B + A * B)
+    sized-in = L-sum-in a b (A * B) l each f

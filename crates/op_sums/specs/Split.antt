@@ -1,7 +1,7 @@
 -- A sum of products that cannot saturate is the plain sum of two parts: the sum over the first n pairs and the sum over those after them.
 use Prim.Native.Nat.{ℕ, _+_, _*_, _-_, _<_, _≤_}
-use mathlib.Core.Path.{_≡_, refl, sym, ap, ap₂, _∙_}
-use mathlib.Core.List.{List, [], _∷_, _++_, zipWith, foldl, foldl-append}
+use mathlib.Core.Path.{_≡_, sym, ap, ap₂, _∙_}
+use mathlib.Core.List.{List, [], _∷_, zipWith, foldl, foldl-append}
 use native.Mathlib.Omega.{arith}
 use native.Mathlib.Nat.{mul-le-mul-right}
 use lib.IntN.{ℤ, pos, _+ℤ_, _*ℤ_, natAbs}
@@ -12,7 +12,7 @@ use Rattle.math_integers.specs.Sums.{add-is}
 use Rattle.math_lists.specs.Tab.{zip-take, zip-drop}
 use Rattle.standard.specs.Arithmetic.{L-mult, L-sum}
 use Rattle.standard.specs.Tables.{_at_}
-use Rattle.op_sums.specs.Room.{L-sum-steps, L-sum-in}
+use Rattle.op_sums.specs.Room.{L-sum-steps}
 
 -- a sum that starts at s is s and the sum that starts at 0
 pub sum-from : (s : ℤ) (xs : List ℤ) → foldl _+ℤ_ s xs ≡ s +ℤ foldl _+ℤ_ (pos 0) xs

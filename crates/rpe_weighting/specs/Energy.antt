@@ -22,7 +22,8 @@ use Rattle.law_arithmetic.specs.Within.{word, word-is}
 use Rattle.law_arithmetic.specs.Sum.{sum-in, sum-plain}
 use Rattle.law_lengths.specs.Subframes.{grid-length}
 use Rattle.law_loops.specs.Positions.{grid-at}
-use Rattle.op_sums.specs.Room.{at-most, square-in, L-sum-plain}
+use Rattle.op_sums.specs.Room.{at-most, L-sum-plain}
+use Rattle.op_sums.specs.Squares.{shifted, square-in}
 use Rattle.op_sums.specs.Split.{sum-from}
 
 -- the square of a sample, after a shift right by 2
@@ -91,8 +92,8 @@ module _ (q : List ℤ) (l : length q ≡ 40) (f : every small q ≡ true) where
 -- ---- the energy of a grid
 
 module _ (m : ℕ) (x : List ℤ) where
-  abbrev pub wt : List ℤ
-  wt = map (λ y. y >> 2) (grid m x)
+  abbrev wt : List ℤ
+  wt = shifted 2 (grid m x)
 
   thirteen : length wt ≡ 13
   thirteen = length-map (grid m x) (λ y. y >> 2) ∙ grid-length m x
@@ -103,7 +104,7 @@ module _ (m : ℕ) (x : List ℤ) where
       rw (List·getD-map (λ (y : ℤ). y >> 2) (grid m x) i (pos 0), grid-at m x i h) (sym (List·getD-map square x (m + 3 * i) (pos 0)))
 
   -- so a grid's squares are that grid of the squares
-  pub squares-are : zipWith _*ℤ_ wt wt ≡ grid m (squared x)
+  squares-are : zipWith _*ℤ_ wt wt ≡ grid m (squared x)
   squares-are =
       let n : length (zipWith _*ℤ_ wt wt) ≡ 13 = omega (arith, zip-length _*ℤ_ wt wt, thirteen) in
       ext-getD (pos 0) _ _ (n ∙ sym (grid-length m (squared x)))
@@ -113,12 +114,12 @@ module _ (m : ℕ) (x : List ℤ) where
 
   module _ (k : m ≤ 3) (l : length x ≡ 40) (f : every small (squared x) ≡ true) where
     -- each of them is small, and their doubled sum fits 32 bits
-    pub wt-in : (i : ℕ) → i < length wt → natAbs (wt at i *ℤ wt at i) ≤ 67108864
+    wt-in : (i : ℕ) → i < length wt → natAbs (wt at i *ℤ wt at i) ≤ 67108864
     wt-in i h =
         let g : i < 13 = omega (arith, thirteen) in
         rw (square-at i g) (small-at (squared x) (length-map x square ∙ l) f (m + 3 * i) (omega arith))
 
-    pub wt-room : length wt * 67108864 < 1073741824
+    wt-room : length wt * 67108864 < 1073741824
     wt-room = rw thirteen (omega arith)
 
     -- the energy is twice the plain sum of them

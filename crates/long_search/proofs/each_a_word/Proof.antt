@@ -1,12 +1,10 @@
 -- An element that is read is a word, by its type. The loop reads all, so each of them is.
 use Prim.Native.Nat.{ℕ, _-_, _≤_, _<_}
-use mathlib.Core.Logic.{⊎-elim}
-use native.Mathlib.Nat.{eq-or-lt-of-le, le-of-suc-le-suc}
-use native.Mathlib.Numerals.{add-one}
 use native.Mathlib.Omega.{arith}
 use lib.ListN.{length}
 use mir.Syntax.{w16}
 use mir.Val.{SFits}
+use borrow.Author.Count.{below-none, below-more}
 use borrow.Author.Needs.{needs, sfits-of}
 use Rattle.standard.specs.Tables.{_at_}
 use Rattle.law_arithmetic.specs.Within.{words-yes}
@@ -22,10 +20,7 @@ abbrev μ-loop : tie.MeasureT-loop
 loop-again : tie.Need-loop-again Inv-loop μ-loop
 loop-again c =
     let t = c .before .before in
-    let f : SFits w16 (t .before .args .s .now at t .loop .k) = sfits-of (c .x .given) in (
-      omega arith,
-      λ j q. ⊎-elim (λ e. rw e f) (t .loop .inv .1 j) (eq-or-lt-of-le (le-of-suc-le-suc (rw add-one at q))),
-    )
+    (omega arith, below-more _ _ (t .loop .inv .1) (sfits-of (c .x .given)))
 
 returns : tie.Need-returns Inv-loop μ-loop
 returns c =
@@ -38,7 +33,7 @@ each-a-word-spec =
     (tie.spec
     Inv-loop
     μ-loop
-    (λ c. (omega arith, λ j h. absurd (omega arith)))
+    (λ c. (omega arith, below-none _))
     (λ c. search needs)
     (λ c. search needs)
     (λ c. search needs)

@@ -39,7 +39,7 @@ lag-search-requires c κs =
     let w = c .before .before in
     let n : length (w .weighed .result) ≡ 40 = search needs in
     let e = take-all 40 (w .weighed .result) (omega arith) in
-    (rw e n, (w .before .before .pre .1, rw e (w .weighed .ensures .1)))
+    ((rw e n, w .before .before .pre .1), rw e (w .weighed .ensures .1))
 
 -- what the search finds is the standard's
 found-is : (c : tie.After-lag-search) → let w = c .before .before .before in let s = w .before .before in

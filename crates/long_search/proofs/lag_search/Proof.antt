@@ -4,7 +4,7 @@ use mathlib.Core.Path.{_≡_, sym, ap, ap₂, _∙_}
 use mathlib.Core.List.{List}
 use native.Mathlib.Omega.{arith}
 use lib.IntN.{ℤ, pos, _+ℤ_}
-use lib.ListN.{length, take, drop, length-take, length-drop}
+use lib.ListN.{length, take, drop}
 use lib.Seq.{take-all}
 use lib.Signed.{ltZ}
 use mir.Syntax.{w32}
@@ -13,14 +13,12 @@ use borrow.Author.Needs.{needs, sfits-of}
 use Rattle.math_integers.specs.Halves.{mem}
 use Rattle.math_integers.specs.Ranges.{back, res}
 use Rattle.math_lists.specs.Best.{Best, best, best-start, best-new, best-old, best-within}
-use Rattle.math_lists.specs.Every.{every-take}
 use Rattle.math_lists.specs.First.{by-cond}
 use Rattle.math_lists.specs.Tab.{tab-length, tab-at-zero}
 use Rattle.standard.specs.Arithmetic.{L-sum}
 use Rattle.standard.specs.Tables.{_at_}
-use Rattle.op_sums.specs.Room.{at-most}
 use Rattle.op_sums.specs.Search.{chosen}
-use Rattle.long_search.specs.Search.{correlated, correlated-at, lasts, last-at, back-is, part-room, lag-split, lag-fits}
+use Rattle.long_search.specs.Search.{correlated, correlated-at, last-at, back-is, part-room, lag-split, lag-fits}
 use Rattle.long_search.proofs.lag_search.Statement.{statement}
 use Rattle.long_search.proofs.lag_search.Tie as tie
 
@@ -45,15 +43,10 @@ l-sum-requires : tie.Need-l-sum-requires Inv-loop μ-loop
 l-sum-requires c κs =
     let t = c .before .before .before in
     let s = start t in
-    let dp = s .args .dp .now in
     let i = t .loop .i in
-    let h : i < 81 = omega arith in
-    let wt = s .args .wt .now in
-    let ds = take 32 (drop (80 - i) dp) in
-    let l : length (take 32 wt) ≡ 32 = simp length-take (omega (arith, s .pre .0)) in
-    let n : length ds ≡ 32 = simp (length-take, length-drop) (omega (arith, s .pre .1 .0)) in
-    let small = every-take (at-most 512) 32 wt (s .pre .1 .1) in
-    rw (part dp i h) (part-room (take 32 wt) ds (l ∙ sym n) (omega arith) small)
+    let ((m, n), small) = s .pre in
+    rw (part (s .args .dp .now) i (omega arith))
+    (part-room (s .args .wt .now) _ m n small (t .before .before .each-a-word .ensures) 32 0 (80 - i) (omega arith) (omega arith))
 
 -- an iteration: what was read and what the call gave
 module _ (c : tie.After-better-arg Inv-loop μ-loop) where
@@ -85,14 +78,15 @@ module _ (c : tie.After-better-arg Inv-loop μ-loop) where
 
   sum-fits : SFits w32 (mem w32 (c .before .l-sum .result) +ℤ mem w32 (t .before .lasts .result at (80 - i)))
   sum-fits =
-      let words = t .before .before .each-a-word .ensures in
-      rw sum-is (lag-fits wt dp (80 - i) (s .pre .0) (s .pre .1 .0) (s .pre .1 .1) words (omega arith))
+      let ((m, n), small) = s .pre in
+      rw sum-is (lag-fits wt dp m n small (t .before .before .each-a-word .ensures) (80 - i) (omega arith))
 
   turn : mem w32 (mem w32 (c .before .l-sum .result) +ℤ mem w32 (t .before .lasts .result at (80 - i))) ≡ correlated wt dp at i
   turn =
+      let ((m, n), small) = s .pre in
       back sum-fits
       ∙ (sum-is
-      ∙ (lag-split wt dp (80 - i) (s .pre .0) (s .pre .1 .0) (s .pre .1 .1) (t .before .before .each-a-word .ensures) (omega arith)
+      ∙ (lag-split wt dp m n small (t .before .before .each-a-word .ensures) (80 - i) (omega arith)
       ∙ (ap (L-sum (pos 0) wt) (back-is dp i) ∙ sym (correlated-at wt dp i (omega arith)))))
 
 loop-again : tie.Need-loop-again Inv-loop μ-loop
@@ -138,17 +132,17 @@ lag-search-spec =
     Inv-loop
     μ-loop
     (λ c κs. search needs)
-    (λ c κs. c .before .pre)
+    (λ c κs. let ((m, n), small) = c .before .pre in ((m, n), (small, c .each-a-word .ensures)))
     loop-holds
     (λ c. search needs)
     (λ c. search needs)
-    (λ c. omega (arith, start (c .before) .pre .0))
+    (λ c. omega (arith, start (c .before) .pre .0 .0))
     (λ c. search needs)
     (λ c. search needs)
     (λ c. search needs)
     (λ c. search needs)
     (λ c. search needs)
-    (λ c. omega (arith, start (c .before .before) .pre .1 .0))
+    (λ c. omega (arith, start (c .before .before) .pre .0 .1))
     l-sum-requires
     (λ c. search needs)
     (λ c. search needs)

@@ -1,17 +1,15 @@
 -- Iteration j stores the sum of the last 8 products for the 40 that start at index j.
-use Prim.Native.Nat.{ℕ, _+_, _-_, _≤_, _<_}
+use Prim.Native.Nat.{ℕ, _+_, _-_, _≤_}
 use mathlib.Core.Path.{_≡_, refl, sym, ap, _∙_}
 use mathlib.Core.List.{List}
 use native.Mathlib.Omega.{arith}
 use lib.IntN.{ℤ, pos}
-use lib.ListN.{length, take, drop, length-take, length-drop, length-set, replicate}
+use lib.ListN.{length, take, drop, length-set, replicate}
 use borrow.Author.Needs.{needs}
 use Rattle.math_integers.specs.Ranges.{res}
-use Rattle.math_lists.specs.Every.{every-take, every-drop}
 use Rattle.math_lists.specs.Fill.{filled, fill-next, fill-end}
 use Rattle.math_lists.specs.Tab.{tab-length, tab-at-zero}
 use Rattle.standard.specs.Arithmetic.{L-sum}
-use Rattle.op_sums.specs.Room.{at-most}
 use Rattle.long_search.specs.Search.{lasts, last-at, part-room}
 use Rattle.long_search.proofs.lasts.Statement.{statement}
 use Rattle.long_search.proofs.lasts.Tie as tie
@@ -33,15 +31,8 @@ l-sum-requires : tie.Need-l-sum-requires Inv-loop μ-loop
 l-sum-requires c κs =
     let t = c .before .before .before in
     let s = t .before in
-    let dp = s .args .dp .now in
-    let j = t .loop .j in
-    let wt = s .args .wt .now in
-    let xs = take 8 (drop 32 wt) in
-    let ds = take 8 (drop (32 + j) dp) in
-    let l : length xs ≡ 8 = simp (length-take, length-drop) (omega (arith, s .pre .0)) in
-    let n : length ds ≡ 8 = simp (length-take, length-drop) (omega (arith, s .pre .1 .0)) in
-    let small = every-take (at-most 512) 8 (drop 32 wt) (every-drop (at-most 512) 32 wt (s .pre .1 .1)) in
-    rw (part dp j) (part-room xs ds (l ∙ sym n) (omega arith) small)
+    let ((m, n), (small, words)) = s .pre in
+    rw (part (s .args .dp .now) (t .loop .j)) (part-room (s .args .wt .now) _ m n small words 8 32 (32 + t .loop .j) (omega arith) (omega arith))
 
 loop-again : tie.Need-loop-again Inv-loop μ-loop
 loop-again c =
@@ -74,7 +65,7 @@ lasts-spec =
     loop-holds
     (λ c. search needs)
     (λ c. search needs)
-    (λ c. omega (arith, c .before .before .pre .0))
+    (λ c. omega (arith, c .before .before .pre .0 .0))
     (λ c. search needs)
     (λ c. search needs)
     (λ c. search needs)

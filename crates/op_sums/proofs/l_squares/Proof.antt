@@ -14,7 +14,7 @@ use Rattle.math_integers.specs.Ranges.{back, wide, shr-fits, product-fits}
 use Rattle.math_lists.specs.Tab.{map-at}
 use Rattle.standard.specs.Arithmetic.{_>>_, L-squares}
 use Rattle.standard.specs.Tables.{_at_}
-use Rattle.op_sums.specs.Room.{square-in}
+use Rattle.op_sums.specs.Squares.{square-in}
 use Rattle.op_sums.specs.Along.{Sum, sum-start, sum-room, sum-next, sum-fits, sum-end}
 use Rattle.op_sums.proofs.l_squares.Statement.{statement}
 use Rattle.op_sums.proofs.l_squares.Tie as tie
