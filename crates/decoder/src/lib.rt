@@ -63,7 +63,7 @@ fn frame(m: Decoder, codewords: &[i16], samples: &mut [i16]) -> Decoder
 fn sound(m: Decoder) -> bool
     ensures { λ r. ⌜ r ≡ sound-decoder (memory m) ⌝ }
 {
-    40 <= m.nrp && m.nrp <= 120
+    long_filter::is_lag(m.nrp)
 }
 
 // A refusal: the number, and the state as it was passed in.

@@ -5,7 +5,7 @@ use mathlib.Core.Option.{Option, some}
 use mathlib.Core.List.{List, [], _∷_, _++_, append-assoc, map, flatten}
 use native.Mathlib.Omega.{arith}
 use lib.IntN.{ℤ, natAbs}
-use lib.ListN.{length, take, drop, replicate, length-append, length-take, length-drop, take-append-drop}
+use lib.ListN.{length, take, drop, replicate, length-take, take-append-drop}
 use lib.Seq.{drop-drop}
 use Rattle.math_lists.specs.Scan.{run}
 use Rattle.math_lists.specs.Cut.{cut}
@@ -15,7 +15,7 @@ use Rattle.standard.specs.Rpe.{updated}
 use Rattle.standard.specs.Coder.{Subcoded, sub-coded, sub-step}
 use Rattle.standard.specs.House.{Mark, mark}
 use Rattle.law_lengths.specs.Subframes.{sub-coded-lag, sub-coded-pulses, reconstructed-length}
-use Rattle.long_history.specs.Window.{window-updated, Stands, stands-lent, stands-next}
+use Rattle.long_history.specs.Window.{Grown, grown-start, grown-length, grown-next, Stands, stands-lent, stands-next}
 use Rattle.frame_subframe.specs.Whole.{added}
 
 -- the 40 samples of d that sub-frame n, from 0 to 3, reads
@@ -82,46 +82,41 @@ module _ (dp d : List ℤ) where
       let f = sub-coded dp d .codes in
       reconstructed-length (natAbs (f .Nc)) f dp (sub-coded-lag dp d) (sub-coded-pulses dp d) l
 
--- one sub-frame: what the list holds before it and after it (`Stands`: x, then r, and the last 120 of x are the history)
-module _ (n : ℕ) {dp x r h : List ℤ} (t : Stands (40 * n) dp x r h) (d : List ℤ) where
-  -- the history has 120 samples
-  history : length dp ≡ 120
-  history = sym (ap length (t .last)) ∙ rw length-drop (omega (arith, t .size))
+-- a sub-frame has 17 codewords
+words-length : (dp d : List ℤ) → length (sub-words (sub-coded dp d .codes)) ≡ 17
+unfolding sub-words
+words-length dp d = omega (arith, sub-coded-pulses dp d)
 
-  -- where a sub-frame put its samples in place, the list holds x and then these, and the history is the next one
-  pub turn : {y : List ℤ} → y ≡ put (40 * n) 160 h (before n h ++ added (before n h) (own n d))
-      → Stands (40 * n + 40) (sub-step dp (own n d) .0) (x ++ added dp (own n d)) (drop 40 r) y
-  turn e =
-      let new = added dp (own n d) in
-      let b : before n h ≡ dp = stands-lent t in
-      let next = stands-next t new (before n h ++ added (before n h) (own n d)) (added-length dp (own n d) history)
-      (ap (λ (p : List ℤ). before n h ++ added p (own n d)) b) in
-      rw (e, step-is dp (own n d)) next
+-- after sub-frame n: its mark m and its codewords w are the definition's, and the list y holds x, what it adds, then the rest
+pub record Turned (n : ℕ) (dp d x r : List ℤ) (m : Option Mark) (w y : List ℤ) : Type 0 where
+  pub marked : m ≡ some (mark (sub-coded dp (own n d)))
+  pub written : w ≡ sub-words (sub-coded dp (own n d) .codes)
+  pub size : length w ≡ 17
+  pub stands : Stands (40 * n + 40) (sub-step dp (own n d) .0) (x ++ added dp (own n d)) (drop 40 r) y
 
--- the last 120 samples of x, from index a on, are the history dp
-record Grown (a : ℕ) (dp x : List ℤ) : Type 0 where
-  size : length x ≡ a + 120
-  last : drop a x ≡ dp
-
--- the same is true after a sub-frame, of x with what it adds and of the next history
-grown-next : (a : ℕ) (dp x d : List ℤ) → Grown a dp x → Grown (a + 40) (sub-step dp d .0) (x ++ added dp d)
-grown-next a dp x d t =
-    let l : length dp ≡ 120 = sym (ap length (t .last)) ∙ rw length-drop (omega (arith, t .size)) in
+-- where the list held x and then r, and the history at the end of x (`Stands`)
+pub turn : (n : ℕ) {dp x r h : List ℤ} → Stands (40 * n) dp x r h → (d : List ℤ) {m : Option Mark} {w y : List ℤ}
+    → let c = sub-coded (before n h) (own n d) in
+    (m ≡ some (mark c)) × ((w ≡ sub-words (c .codes)) × (y ≡ put (40 * n) 160 h (before n h ++ added (before n h) (own n d))))
+    → Turned n dp d x r m w y
+turn n {dp} {h = h} t d (em, (ew, ey)) =
+    let b : before n h ≡ dp = stands-lent t in
+    let next = stands-next t _ _ (added-length dp (own n d) (grown-length (t .grown))) (ap (λ (p : List ℤ). p ++ added p (own n d)) b) in
     record {
-      size = rw length-append (omega (arith, t .size, added-length dp d l));
-      last =
-          let moved = window-updated x (added dp d) a (omega (arith, t .size)) in
-          sym (step-is dp d ∙ (ap (λ (h : List ℤ). updated h (added dp d)) (sym (t .last)) ∙ moved));
+      marked = rw b at em;
+      written = rw b at ew;
+      size = ap length ew ∙ words-length _ _;
+      stands = rw (ey, step-is dp (own n d)) next;
     }
+
+-- the history at the end of the list, after one sub-frame
+grown : {a : ℕ} {dp x : List ℤ} (d : List ℤ) → Grown a dp x → Grown (a + 40) (sub-step dp d .0) (x ++ added dp d)
+grown {dp = dp} d t = rw (step-is dp d) (grown-next t (added dp d) (added-length dp d (grown-length t)))
 
 module _ (dp d : List ℤ) (l : length dp ≡ 120) where
   -- so it is true after the four
   all-four : Grown 160 (dp₄ dp d) (four-added dp d)
-  all-four =
-      let first = grown-next 0 dp dp (own 0 d) (record { size = omega arith; last = refl }) in
-      let second = grown-next 40 _ _ (own 1 d) first in
-      let third = grown-next 80 _ _ (own 2 d) second in
-      grown-next 120 _ _ (own 3 d) third
+  all-four = grown (own 3 d) (grown (own 2 d) (grown (own 1 d) (grown (own 0 d) (grown-start dp l))))
 
   -- there are 280 samples then
   pub four-length : length (four-added dp d) ≡ 280
@@ -138,8 +133,3 @@ four-put c w₁ w₂ w₃ w₄ l l₁ l₂ l₃ l₄ =
     let l₀ : length (take 8 c) ≡ 8 = rw length-take (omega arith) in
     ap (λ (c : List ℤ). put 59 17 (put 42 17 (put 25 17 (put 8 17 c w₁) w₂) w₃) w₄) (sym (take-append-drop 8 c))
     ∙ (five c (take 8 c) w₁ w₂ w₃ w₄ 8 17 17 17 17 l₀ l₁ l₂ l₃ l₄ l ∙ simp append-assoc)
-
--- a sub-frame has 17 codewords
-pub words-length : (dp d : List ℤ) → length (sub-words (sub-coded dp d .codes)) ≡ 17
-unfolding sub-words
-words-length dp d = omega (arith, sub-coded-pulses dp d)

@@ -2,6 +2,7 @@
 // ('Refusals'); and encode_alaw, which takes octets. What both promise is in specs/Promise.antt.
 use frame_analysis::Filters;
 use lpc_reflection::Ending as Ended;
+use pre_processing::Kept;
 ghost use mathlib.Core.Path.{_≡_};
 ghost use mathlib.Core.Bool.{true, cond};
 ghost use mathlib.Core.Option.{some};
@@ -9,7 +10,6 @@ ghost use mathlib.Core.List.{_++_};
 ghost use Prim.Native.Nat.{_*_, _≤_};
 ghost use lib.IntN.{pos};
 ghost use lib.ListN.{length, take, replicate};
-ghost use Rattle.standard.specs.Arithmetic.{within};
 ghost use Rattle.standard.specs.Frame.{sub-words, words};
 ghost use Rattle.standard.specs.Alaw.{alaw-samples};
 ghost use Rattle.standard.specs.Coder as standard;
@@ -73,20 +73,15 @@ struct Coded {
     marks: Marks,
 }
 
-// Whether z is in the range from least to most.
-fn within(least: i32, most: i32, z: i32) -> bool
-    ensures { λ r. ⌜ r ≡ within least most z ⌝ }
-{
-    least <= z && z <= most
-}
-
-// House rules, 'Soundness': z1 and the difference L_z2 - 32768 * z1 are in their ranges.
+// House rules, 'Soundness': what the offset filter keeps is in its ranges.
 fn sound(e: Encoder) -> bool
     ensures { λ r. ⌜ r ≡ house.sound-coder (coder e) ⌝ }
 {
-    let z1 = e.z1 as i32;
-    let centre = z1 * 32768;
-    within(-16384, 16380, z1) && within(centre - 536740337, centre + 536871409, e.l_z2)
+    let l_z2 = e.l_z2;
+    pre_processing::sound(Kept {
+        z1: e.z1,
+        l_z2: l_z2,
+    })
 }
 
 // House rules, 'Marks' (request W-203): a lag is found when some lag had a positive sum.

@@ -5,17 +5,21 @@ ghost use mathlib.Core.List.{zipWith};
 ghost use Prim.Native.Nat.{_≤_};
 ghost use lib.ListN.{length};
 ghost use Rattle.standard.specs.Arithmetic.{add};
-ghost use Rattle.standard.specs.LongTerm.{dpp, residual};
+ghost use Rattle.standard.specs.LongTerm.{is-lag, dpp, residual};
 ghost use Rattle.standard.specs.Decoder.{Nr};
+
+// 4.2.11, 4.3.2: whether a lag is from 40 to 120.
+pub fn is_lag(lag: i16) -> bool
+    ensures { λ r. ⌜ r ≡ is-lag lag ⌝ }
+{
+    40 <= lag && lag <= 120
+}
 
 // 4.3.2: the received lag if it is from 40 to 120, else the remembered one.
 pub fn used_lag(nrp: i16, ncr: i16) -> i16
     ensures { λ r. ⌜ r ≡ Nr nrp ncr ⌝ }
 {
-    if ncr < 40 {
-        return nrp;
-    }
-    if 120 < ncr { nrp } else { ncr }
+    if is_lag(ncr) { ncr } else { nrp }
 }
 
 // 4.2.12: the estimate dpp, from the last 120 samples and a gain code. With a lag of 40 or more it needs no sample of

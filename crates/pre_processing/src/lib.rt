@@ -8,7 +8,7 @@ ghost use lib.ListN.{length};
 ghost use Rattle.math_lists.specs.Scan.{run};
 ghost use lib.Signed.{shrZ};
 ghost use mir.Syntax.{w16};
-ghost use Rattle.standard.specs.Arithmetic.{up};
+ghost use Rattle.standard.specs.Arithmetic.{up, within};
 ghost use Rattle.standard.specs.Preprocessing.{downscaled, offset, emphasis};
 ghost use Rattle.law_soundness.specs.Ranges.{L-z2-range};
 ghost use Rattle.law_soundness.specs.Decay.{decayed};
@@ -19,6 +19,22 @@ ghost use Rattle.pre_processing.specs.Promise.{kept};
 pub struct Kept {
     pub z1: i16,
     pub l_z2: i32,
+}
+
+// Whether z is in the range from least to most.
+fn within(least: i32, most: i32, z: i32) -> bool
+    ensures { λ r. ⌜ r ≡ within least most z ⌝ }
+{
+    least <= z && z <= most
+}
+
+// House rules, 'Soundness': z1 and the difference L_z2 - 32768 * z1 are in their ranges.
+pub fn sound(m: Kept) -> bool
+    ensures { λ r. ⌜ r ≡ sound-offset (kept m) ⌝ }
+{
+    let z1 = m.z1 as i32;
+    let centre = z1 * 32768;
+    within(-16384, 16380, z1) && within(centre - 536740337, centre + 536871409, m.l_z2)
 }
 
 // 4.2.1: so[k] of a sample; its low 3 bits are ignored.

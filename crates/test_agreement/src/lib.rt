@@ -29,19 +29,12 @@ pub fn same(a: &[i16], b: &[i16]) -> bool
     true
 }
 
-// Whether a lag is from 40 to 120.
-fn lag(nc: i16) -> bool
-    ensures { λ r. ⌜ r ≡ is-lag nc ⌝ }
-{
-    40 <= nc && nc <= 120
-}
-
 // Whether the four lags are from 40 to 120.
 pub fn lags(codewords: &[i16; 76]) -> bool
     ensures { λ r. ⌜ r ≡ every (λ p. is-lag (now (codewords .entry) at p)) places ⌝ }
 {
     for n in 0..4usize {
-        if !lag(codewords[8 + 17 * n]) {
+        if !long_filter::is_lag(codewords[8 + 17 * n]) {
             return false;
         }
     }

@@ -26,12 +26,15 @@ inverse-requires c κs =
     let f : SFits w16 (v .sub-valid .result at 3) = search needs in
     rw (back f, v .sub-valid .ensures) (field-fit (v .before .args .c .now) 3 (v .before .pre .0) (omega arith))
 
--- the point after the fields are read, from the grid and from the lag in use
+-- the point after the fields are read, from the pulses, from the grid and from the lag in use
+abbrev received : tie.After-inverse → tie.After-sub-valid
+received c = c .before .before .before
+
 abbrev fields : tie.After-place-of → tie.After-sub-valid
-fields c = c .before .before .before .before .before
+fields c = received (c .before .before)
 
 abbrev read : tie.After-used-lag → tie.After-sub-valid
-read c = c .before .before .before .before .before .before .before .before
+read c = fields (c .before .before .before)
 
 -- the grid, as an index
 grid : (c : tie.After-place-of) → c .place-of .result ≡ P (fields c .sub-valid .result at 2)

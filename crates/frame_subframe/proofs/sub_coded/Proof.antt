@@ -105,8 +105,8 @@ module _ (k : tie.After-selected) where
   mc-is : k .selected .result .mc ≡ Mc x
   mc-is = k .selected .ensures .0 ∙ ap Mc x-is
 
-  xmaxc-is : k .selected .result .xmaxc ≡ block-code x
-  xmaxc-is = k .selected .ensures .1 .0 ∙ ap block-code x-is
+  code-is : k .selected .result .xmaxc ≡ block-code x
+  code-is = k .selected .ensures .1 .0 ∙ ap block-code x-is
 
   xmc-is : k .selected .result .xmc ≡ pulse-codes x
   xmc-is = k .selected .ensures .1 .1 ∙ ap pulse-codes x-is
@@ -152,7 +152,7 @@ module _ (w : tie.After-written) where
 inverse-requires : tie.Need-inverse-requires
 inverse-requires c κs =
     let k = chosen (c .before) in
-    rw (back (code-word k), xmaxc-is k) (xmaxc-fits (peak (grid (Mc (x k)) (x k))) (peak-in (grid (Mc (x k)) (x k))))
+    rw (back (code-word k), code-is k) (xmaxc-fits (peak (grid (Mc (x k)) (x k))) (peak-in (grid (Mc (x k)) (x k))))
 
 positioned-requires : tie.Need-positioned-requires
 positioned-requires c κs = let k = chosen (c .before .before) in omega (arith, mc-is k, grid-in (x k))
@@ -178,7 +178,7 @@ module _ (r : tie.After-reconstructed) where
       let given : new ≡ zipWith add (placed .positioned .result) (known .estimate .result) = r .reconstructed .ensures in
       let pulses = rw (back (code-word code)) at (placed .before .inverse .ensures) in
       given
-      ∙ added-is (dp (found code)) (d (found code)) (mc-is code) (xmaxc-is code) (xmc-is code) pulses (placed .positioned .ensures)
+      ∙ added-is (dp (found code)) (d (found code)) (mc-is code) (code-is code) (xmc-is code) pulses (placed .positioned .ensures)
       (estimate-is known)
 
 returns : tie.Need-returns
@@ -194,7 +194,7 @@ returns c =
         (
           g .lag-and-gain .ensures .1 .1 .0 ∙ ap (λ (b : Best). ltZ (pos 0) (b .sum)) found-is,
           (
-            stored (sent r) ∙ codes-are (dp g) (d g) (mc-is k) (xmaxc-is k) (xmc-is k) (lag-is g) (gain-is g),
+            stored (sent r) ∙ codes-are (dp g) (d g) (mc-is k) (code-is k) (xmc-is k) (lag-is g) (gain-is g),
             put-last (s .args .dp .now) _ (s .pre .1 .0) ∙ ap (dp g ++_) (new-are r),
           ),
         ),

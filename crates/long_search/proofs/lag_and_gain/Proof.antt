@@ -20,9 +20,12 @@ use Rattle.long_search.specs.Search.{scaled, correlated}
 use Rattle.long_search.proofs.lag_and_gain.Statement.{statement}
 use Rattle.long_search.proofs.lag_and_gain.Tie as tie
 
--- the start, from after the search
+-- the point after d is scaled, from after the search, and the start
+abbrev scaled-d : tie.After-lag-search → tie.After-weighed
+scaled-d c = c .before .before .before
+
 abbrev start : tie.After-lag-search → tie.Start
-start c = c .before .before .before .before .before
+start c = scaled-d c .before .before
 
 -- the scaling
 scal-is : (c : tie.After-scal) → mem w16 (c .scal .result) ≡ scal (c .before .args .d .now)

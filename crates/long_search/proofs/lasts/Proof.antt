@@ -32,7 +32,8 @@ l-sum-requires c κs =
     let t = c .before .before .before in
     let s = t .before in
     let ((m, n), (small, words)) = s .pre in
-    rw (part (s .args .dp .now) (t .loop .j)) (part-room (s .args .wt .now) _ m n small words 8 32 (32 + t .loop .j) (omega arith) (omega arith))
+    let j = t .loop .j in
+    rw (part (s .args .dp .now) j) (part-room (s .args .wt .now) _ m n small words 8 32 (32 + j) (omega arith) (omega arith))
 
 loop-again : tie.Need-loop-again Inv-loop μ-loop
 loop-again c =

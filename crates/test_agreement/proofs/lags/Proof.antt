@@ -37,24 +37,24 @@ unfolding places tab
 place n h = tab-each (λ n. 8 + 17 * n) (λ n. getD places n 0) 4 0 refl n (omega arith) h
 
 -- what is left to test before a turn: its own lag, and what is left after it
-turn : (c : tie.After-lag Inv-loop μ-loop)
+turn : (c : tie.After-is-lag Inv-loop μ-loop)
     → let k = c .before .before .before in
     let p = lag-at (k .before .args .codewords .now) in
-    every p places ≡ (c .lag .result && every p (drop (k .loop .n + 1) places))
+    every p places ≡ (c .is-lag .result && every p (drop (k .loop .n + 1) places))
 unfolding places
 turn c =
     let k = c .before .before .before in
     let n = k .loop .n in
     let xs = k .before .args .codewords .now in
-    let f : SFits w16 (xs at (8 + 17 * n)) = sfits-of (c .before .lag-arg .given) in
-    let one : c .lag .result ≡ lag-at xs (getD places n 0) = rw (back f, place n (omega arith)) at (c .lag .ensures) in
+    let f : SFits w16 (xs at (8 + 17 * n)) = sfits-of (c .before .is-lag-arg .given) in
+    let one : c .is-lag .result ≡ lag-at xs (getD places n 0) = rw (back f, place n (omega arith)) at (c .is-lag .ensures) in
     rw one (sym (k .loop .inv .1) ∙ every-next (lag-at xs) places n 0 (omega arith))
 
 returns : tie.Need-returns Inv-loop μ-loop
-returns c = sym (rw (not-true (c .before .lag .result) (c .if1 .taken)) at (turn (c .before)))
+returns c = sym (rw (not-true (c .before .is-lag .result) (c .if1 .taken)) at (turn (c .before)))
 
 loop-again : tie.Need-loop-again Inv-loop μ-loop
-loop-again c = (search needs, sym (rw (not-false (c .before .lag .result) (c .if1 .left)) at (turn (c .before))))
+loop-again c = (search needs, sym (rw (not-false (c .before .is-lag .result) (c .if1 .left)) at (turn (c .before))))
 
 returns-2 : tie.Need-returns-2 Inv-loop μ-loop
 unfolding places

@@ -1,7 +1,7 @@
 -- The definition is the conjunction of the same two comparisons; each return is one outcome of the first.
 use Rattle.math_integers.specs.Ranges.{back}
-use Rattle.encoder.proofs.within.Statement.{statement}
-use Rattle.encoder.proofs.within.Tie as tie
+use Rattle.pre_processing.proofs.within.Statement.{statement}
+use Rattle.pre_processing.proofs.within.Tie as tie
 
 returns : tie.Need-returns
 returns c =
