@@ -77,10 +77,10 @@ struct Coded {
 fn sound(e: Encoder) -> bool
     ensures { λ r. ⌜ r ≡ house.sound-coder (coder e) ⌝ }
 {
-    let l_z2 = e.l_z2;
+    let z1 = e.z1;
     pre_processing::sound(Kept {
-        z1: e.z1,
-        l_z2: l_z2,
+        z1: z1,
+        l_z2: e.l_z2,
     })
 }
 

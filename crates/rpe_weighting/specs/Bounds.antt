@@ -17,7 +17,7 @@ use Rattle.law_arithmetic.specs.Within.{word, word-is}
 use Rattle.law_lengths.specs.Subframes.{grid-length}
 use Rattle.law_loops.specs.Positions.{grid-at}
 use Rattle.op_sums.specs.Squares.{shifted, squares-steps, squares-in}
-use Rattle.rpe_weighting.specs.Filter.{around, around-length, front, sum-front, Heard, taps-steps, taps-in}
+use Rattle.rpe_weighting.specs.Filter.{around, around-length, front, sum-front, Heard, taps-are}
 
 -- ---- the energy of a grid
 
@@ -75,8 +75,8 @@ module _ (e : List ℤ) (k : ℕ) (l : length e ≡ 40) (f : every word e ≡ tr
 
   -- sum (f): it is at most 1625169920 in size
   pub filter-in : natAbs (L-sum (pos 8192) (drop k (around e)) H) ≤ 1625169920
-  filter-in = rw (sum-front (drop k (around e))) at (taps-in window eleven all-heard)
+  filter-in = rw (sum-front (drop k (around e))) at (taps-are window eleven all-heard .near)
 
   -- and is the plain sum of its terms
   pub filter-steps : L-sum (pos 8192) (drop k (around e)) H ≡ foldl _+ℤ_ (pos 8192) (zipWith L-mult (drop k (around e)) H)
-  filter-steps = rw (sum-front (drop k (around e)), front L-mult (drop k (around e))) at (taps-steps window eleven all-heard)
+  filter-steps = rw (sum-front (drop k (around e)), front L-mult (drop k (around e))) at (taps-are window eleven all-heard .steps)

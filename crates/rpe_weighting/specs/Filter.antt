@@ -210,21 +210,19 @@ module _ (s : ℤ) where
 
 -- ---- so, of eleven samples
 
+-- the sum is plain, its size is at most 8192 plus 65536 times the sum of the taps' sizes, and it is twice the code's
+pub record Taps (x : List ℤ) : Type 0 where
+  pub steps : L-sum (pos 8192) x H ≡ foldl _+ℤ_ (pos 8192) (zipWith L-mult x H)
+  pub near : natAbs (L-sum (pos 8192) x H) ≤ 1625169920
+  pub is : L-sum (pos 8192) x H ≡ taps x +ℤ taps x
+
 module _ (x : List ℤ) (l : length x ≡ 11) (h : Heard x) where
-  -- no step of the sum saturates
-  pub taps-steps : L-sum (pos 8192) x H ≡ foldl _+ℤ_ (pos 8192) (zipWith L-mult x H)
-  taps-steps =
-      by-entries (λ x. Heard x → L-sum (pos 8192) x H ≡ foldl _+ℤ_ (pos 8192) (zipWith L-mult x H)) (pos 0) 11
-      (λ f h. sum-both f h .0) x l h
-
-  -- its size is at most 8192 plus 65536 times the sum of the taps' sizes
-  pub taps-in : natAbs (L-sum (pos 8192) x H) ≤ 1625169920
-  taps-in = by-entries (λ x. Heard x → natAbs (L-sum (pos 8192) x H) ≤ 1625169920) (pos 0) 11 (λ f h. sum-both f h .1) x l h
-
-  taps-is : L-sum (pos 8192) x H ≡ taps x +ℤ taps x
-  taps-is = by-entries (λ x. Heard x → L-sum (pos 8192) x H ≡ taps x +ℤ taps x) (pos 0) 11 (λ f h. sum-both f h .0 ∙ sum-is f h) x l h
+  pub taps-are : Taps x
+  taps-are =
+      by-entries (λ x. Heard x → Taps x) (pos 0) 11
+      (λ f h. let (s, n) = sum-both f h in record { steps = s; near = n; is = s ∙ sum-is f h }) x l h
 
   -- and the filter is the code's sum, shifted right and clipped once
   pub filtered-is : filtered x ≡ clip w16 (taps x >> 13)
   unfolding filtered
-  filtered-is = rw taps-is (high (taps x))
+  filtered-is = rw (taps-are .is) (high (taps x))

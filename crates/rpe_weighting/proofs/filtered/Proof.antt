@@ -1,11 +1,11 @@
 -- Each partial sum fits 32 bits, by bounds on the pairs of taps, so the code's sum is `taps`. Its shift and its clip give the filter, by
 -- the law `filtered-is`.
-use Prim.Native.Nat.{ℕ, _+_, _≤_}
+use Prim.Native.Nat.{ℕ, _+_, _*_, _≤_}
 use mathlib.Core.Path.{_≡_, sym, ap, ap₂, _∙_}
 use mathlib.Core.List.{List}
 use native.Mathlib.Omega.{arith}
 use lib.Dec.{T, leb, leb→le}
-use lib.IntN.{ℤ, pos, _+ℤ_, _*ℤ_}
+use lib.IntN.{ℤ, pos, _+ℤ_, _*ℤ_, natAbs}
 use mir.Syntax.{w16, w32}
 use mir.Val.{SFits}
 use borrow.Author.Needs.{needs, sfits-of}
@@ -85,6 +85,14 @@ record Local (m z : ℤ) (b : ℕ) : Type 0 where
   is : m ≡ z
   near : P z + N z ≤ b
 
+-- what `tap` gives
+tap-local : (h : ℤ) {r a b : ℤ} → mem w32 r ≡ r → (r ≡ h *ℤ (mem w16 a +ℤ mem w16 b)) × (natAbs r ≤ natAbs h * 65536)
+    → SFits w16 a → SFits w16 b → Local (mem w32 r) (h *ℤ (a +ℤ b)) (natAbs h * 65536)
+tap-local h {r} {a} {b} m (e, k) f g =
+    let i : r ≡ h *ℤ (a +ℤ b) = rw (back f, back g) at e in
+    let near : P r + N r ≤ natAbs h * 65536 = omega (arith, k, abs-is r) in
+    record { is = m ∙ i; near = rw i at near }
+
 module _ {m n y z : ℤ} {a b : ℕ} (p : Local m y a) (q : Local n z b) (t : a + b ≤ 2000000000) where
   plus-fits : SFits w32 (m +ℤ n)
   plus-fits = rw (p .is, q .is) (omega (zar, p .near, q .near, add-is y z))
@@ -96,46 +104,20 @@ module _ {m n y z : ℤ} {a b : ℕ} (p : Local m y a) (q : Local n z b) (t : a 
 rounded-fits : {m z : ℤ} {a : ℕ} (n : ℕ) → Local m z a → T (leb a 2000000000) → T (leb n 8192) → SFits w32 (m +ℤ pos n)
 rounded-fits {m} {z} {a} n p s t = rw (p .is) (omega (zar, p .near, add-is z (pos n), leb→le a 2000000000 s, leb→le n 8192 t))
 
--- the results of the four pairs
-module _ (c : tie.After-tap) where
-  abbrev r1 : ℤ
-  r1 = c .tap .result
+-- the four pairs
+pair1 : (c : tie.After-tap) → let wt = at1 c .args .wt .now in Local (mem w32 (c .tap .result)) (neg 134 *ℤ (wt at 0 +ℤ wt at 10)) 8781824
+pair1 c = tap-local (neg 134) (res (c .tap)) (c .tap .ensures) (w0 c) (w10 c)
 
-  pair1 : Local (mem w32 r1) r1 100000000
-  pair1 = record { is = res (c .tap); near = omega (arith, c .tap .ensures .1, abs-is r1) }
+pair2 : (c : tie.After-tap2) → let wt = at1 (at2 c) .args .wt .now in
+    Local (mem w32 (c .tap2 .result)) (neg 374 *ℤ (wt at 1 +ℤ wt at 9)) 24510464
+pair2 c = tap-local (neg 374) (res (c .tap2)) (c .tap2 .ensures) (w1 c) (w9 c)
 
-  pair1-is : let wt = at1 c .args .wt .now in r1 ≡ neg 134 *ℤ (wt at 0 +ℤ wt at 10)
-  pair1-is = rw (back (w0 c), back (w10 c)) at (c .tap .ensures .0)
+pair3 : (c : tie.After-tap3) → let wt = at1 (at2 (at3 c)) .args .wt .now in
+    Local (mem w32 (c .tap3 .result)) (pos 2054 *ℤ (wt at 3 +ℤ wt at 7)) 134610944
+pair3 c = tap-local (pos 2054) (res (c .tap3)) (c .tap3 .ensures) (w3 c) (w7 c)
 
-module _ (c : tie.After-tap2) where
-  abbrev r2 : ℤ
-  r2 = c .tap2 .result
-
-  pair2 : Local (mem w32 r2) r2 100000000
-  pair2 = record { is = res (c .tap2); near = omega (arith, c .tap2 .ensures .1, abs-is r2) }
-
-  pair2-is : let wt = at1 (at2 c) .args .wt .now in r2 ≡ neg 374 *ℤ (wt at 1 +ℤ wt at 9)
-  pair2-is = rw (back (w1 c), back (w9 c)) at (c .tap2 .ensures .0)
-
-module _ (c : tie.After-tap3) where
-  abbrev r3 : ℤ
-  r3 = c .tap3 .result
-
-  pair3 : Local (mem w32 r3) r3 200000000
-  pair3 = record { is = res (c .tap3); near = omega (arith, c .tap3 .ensures .1, abs-is r3) }
-
-  pair3-is : let wt = at1 (at2 (at3 c)) .args .wt .now in r3 ≡ pos 2054 *ℤ (wt at 3 +ℤ wt at 7)
-  pair3-is = rw (back (w3 c), back (w7 c)) at (c .tap3 .ensures .0)
-
-module _ (c : tie.After-tap4) where
-  abbrev r4 : ℤ
-  r4 = c .tap4 .result
-
-  pair4 : Local (mem w32 r4) r4 400000000
-  pair4 = record { is = res (c .tap4); near = omega (arith, c .tap4 .ensures .1, abs-is r4) }
-
-  pair4-is : r4 ≡ pos 5741 *ℤ (wt c at 4 +ℤ wt c at 6)
-  pair4-is = rw (back (w4 c), back (w6 c)) at (c .tap4 .ensures .0)
+pair4 : (c : tie.After-tap4) → Local (mem w32 (c .tap4 .result)) (pos 5741 *ℤ (wt c at 4 +ℤ wt c at 6)) 376242176
+pair4 c = tap-local (pos 5741) (res (c .tap4)) (c .tap4 .ensures) (w4 c) (w6 c)
 
 add-outer : tie.Need-add-outer
 add-outer c = plus-fits (pair1 (at2 c)) (pair2 c) (omega arith)
@@ -148,17 +130,11 @@ module _ (c : tie.After-tap4) where
   abbrev t2 : tie.After-tap2
   t2 = at3 (at4 c)
 
-  outer-pairs : Local (mem w32 (mem w32 (r1 (at2 t2)) +ℤ mem w32 (r2 t2))) (r1 (at2 t2) +ℤ r2 t2) 200000000
+  outer-pairs : Local (mem w32 (mem w32 (at2 t2 .tap .result) +ℤ mem w32 (t2 .tap2 .result))) (outer (wt c)) 33292288
   outer-pairs = plus-local (pair1 (at2 t2)) (pair2 t2) (omega arith)
 
-  inner-pairs : Local (mem w32 (mem w32 (r3 (at4 c)) +ℤ mem w32 (r4 c))) (r3 (at4 c) +ℤ r4 c) 600000000
+  inner-pairs : Local (mem w32 (mem w32 (at4 c .tap3 .result) +ℤ mem w32 (c .tap4 .result))) (inner (wt c)) 510853120
   inner-pairs = plus-local (pair3 (at4 c)) (pair4 c) (omega arith)
-
-  outer-is : r1 (at2 t2) +ℤ r2 t2 ≡ outer (wt c)
-  outer-is = ap₂ _+ℤ_ (pair1-is (at2 t2)) (pair2-is t2)
-
-  inner-is : r3 (at4 c) +ℤ r4 c ≡ inner (wt c)
-  inner-is = ap₂ _+ℤ_ (pair3-is (at4 c)) (pair4-is c)
 
 add-clip-word : tie.Need-add-clip-word
 add-clip-word c = plus-fits (outer-pairs c) (inner-pairs c) (omega arith)
@@ -193,10 +169,9 @@ returns c =
     let a = c .before in
     let t4 = a .before in
     let l = plus-local (plus-local (outer-pairs t4) (inner-pairs t4) (omega arith)) (middle a) (omega arith) in
-    let e = l .is ∙ ap₂ (λ (s t : ℤ). s +ℤ t +ℤ pos 8192 *ℤ x5 a) (outer-is t4) (inner-is t4) in
     res (c .clip-word)
     ∙ (c .clip-word .ensures
-    ∙ (ap (clip w16) (down-bits w32 _ 13 (add-clip-word-3 a) ∙ ap (λ (s : ℤ). (s +ℤ pos 4096) >> 13) e)
+    ∙ (ap (clip w16) (down-bits w32 _ 13 (add-clip-word-3 a) ∙ ap (λ (s : ℤ). (s +ℤ pos 4096) >> 13) (l .is))
     ∙ sym (filtered-is (wt t4) (at1 (at2 (at3 (at4 t4))) .pre) (heard a))))
 
 pub filtered-spec : {M : Type 1} → statement M
