@@ -16,7 +16,7 @@ use Rattle.standard.specs.Arithmetic.{shr, sub, L-sum}
 use Rattle.standard.specs.LongTerm.{back, scal, lag-search, Nc, L-power, bc}
 use Rattle.standard.specs.Tables.{_at_}
 use Rattle.law_arithmetic.specs.Within.{word}
-use Rattle.op_sums.specs.Room.{at-most, Room, words-sized, sized-product, sized-room, sized-in}
+use Rattle.op_sums.specs.Room.{at-most, Headroom, words-sized, sized-product, sized-room, sized-in}
 use Rattle.op_sums.specs.Split.{L-sum-parts}
 
 -- wt[0..39]: d, scaled
@@ -64,7 +64,7 @@ module _ (wt dp : List ℤ) (m : length wt ≡ 40) (n : length dp ≡ 120) (e : 
   dp-small a = every-drop (at-most 32768) a dp (words-sized dp w)
 
   -- k products, from index i of wt and index a of dp on, can be added on 32 bits
-  pub part-room : (k i a : ℕ) → i + k ≤ 40 → a + k ≤ 120 → Room (take k (drop i wt)) (take k (drop a dp))
+  pub part-room : (k i a : ℕ) → i + k ≤ 40 → a + k ≤ 120 → Headroom (take k (drop i wt)) (take k (drop a dp))
   part-room k i a h g =
       let l : length (take k (drop i wt)) ≡ k = simp (length-take, length-drop) (omega arith) in
       let r : length (take k (drop a dp)) ≡ k = simp (length-take, length-drop) (omega arith) in

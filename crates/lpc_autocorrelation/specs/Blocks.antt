@@ -17,7 +17,7 @@ use Rattle.math_lists.specs.Every.{every, every-at, every-take, every-drop, eve
 use Rattle.standard.specs.Arithmetic.{L-sum}
 use Rattle.standard.specs.Tables.{_at_}
 use Rattle.standard.specs.Lpc.{L-ACF}
-use Rattle.op_sums.specs.Room.{at-most, Room, L-sum-in}
+use Rattle.op_sums.specs.Room.{at-most, Headroom, L-sum-in}
 use Rattle.op_sums.specs.Split.{L-sum-parts}
 use Rattle.lpc_autocorrelation.specs.Bounds.{small-room, small-in, L-ACF-at}
 
@@ -50,7 +50,7 @@ module _ (z : List ℤ) (l : length z ≡ 168) (p : every (at-most 2048) z ≡ t
     few = rw (part-length a u) q
 
     -- the code may add them on 32 bits
-    pub parts-room : Room (take n (drop a z)) (take n (drop b z))
+    pub parts-room : Headroom (take n (drop a z)) (take n (drop b z))
     parts-room = small-room _ _ same few (part-small a) (part-small b)
 
     -- and their sum fits

@@ -23,7 +23,7 @@ use Rattle.standard.specs.Lpc.{scalauto, scaled, L-ACF}
 use Rattle.law_arithmetic.specs.Within.{word, word-is}
 use Rattle.law_arithmetic.specs.Product.{mult-r-in}
 use Rattle.law_arithmetic.specs.Norm.{normal, norm-exact}
-use Rattle.op_sums.specs.Room.{at-most, Room, L-sum-steps, L-sum-plain, L-sum-in}
+use Rattle.op_sums.specs.Room.{at-most, Headroom, L-sum-steps, L-sum-plain, L-sum-in}
 use Rattle.lpc_autocorrelation.specs.Energy.{energy, energy-take, energy-drop, squares, products-most}
 use Rattle.lpc_autocorrelation.specs.Scale.{Scale, Unscaled, powers, smax-covers, scale-cases, scaled-by, scaled-not}
 
@@ -70,7 +70,7 @@ module _ (a b : List ℤ) (l : length a ≡ length b) (m : length a ≤ 160)
   products-fit = omega arith
 
   -- the code may add it on 32 bits
-  pub small-room : Room a b
+  pub small-room : Headroom a b
   small-room = record { same = l; most = 4194304; each = λ i h _ _. product-in i h; fits = products-fit }
 
   -- no step of it saturates

@@ -27,7 +27,7 @@ abbrev pub at-most : ℕ → ℤ → Bool
 at-most b z = leb (natAbs z) b
 
 -- two lists of one length, with a bound of the products of their words; the bound times the length is below 2 ^ 30
-pub record Room (a b : List ℤ) : Type 0 where
+pub record Headroom (a b : List ℤ) : Type 0 where
   pub same : length a ≡ length b
   pub most : ℕ
   pub each : (i : ℕ) → i < length a → SFits w16 (a at i) → SFits w16 (b at i) → natAbs (a at i *ℤ b at i) ≤ most
@@ -116,7 +116,7 @@ module _ (A B : ℕ) (a b : List ℤ) (p : every (at-most A) a ≡ true) (q : ev
     each i h = sized-product i h (omega arith)
 
     -- the code may add them on 32 bits
-    pub sized-room : Room a b
+    pub sized-room : Headroom a b
     sized-room = record { same = l; most = A * B; each = λ i h _ _. each i h; fits = f }
 
     -- no step of the sum saturates

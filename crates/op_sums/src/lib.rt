@@ -7,7 +7,7 @@ ghost use lib.IntN.{pos};
 ghost use lib.ListN.{length};
 ghost use lib.Signed.{ltZ};
 ghost use Rattle.standard.specs.Arithmetic.{peak, L-sum, L-squares};
-ghost use Rattle.op_sums.specs.Room.{Room};
+ghost use Rattle.op_sums.specs.Room.{Headroom};
 ghost use Rattle.op_sums.specs.Search.{chosen, best-of};
 
 // The best index so far, and its sum.
@@ -34,9 +34,9 @@ pub fn peak(s: &[i16]) -> i16
     max
 }
 
-// 4.2.4, 4.2.11: the sum of L_mult of each pair, where it cannot saturate (`Room`). It is doubled once, at the end.
+// 4.2.4, 4.2.11: the sum of L_mult of each pair, where it cannot saturate (`Headroom`). It is doubled once, at the end.
 pub fn l_sum(a: &[i16], b: &[i16]) -> i32
-    requires { ⌜ Room (now a) (now b) ⌝ }
+    requires { ⌜ Headroom (now a) (now b) ⌝ }
     ensures { λ r. ⌜ r ≡ L-sum (pos 0) (now (a .entry)) (now (b .entry)) ⌝ }
 {
     let mut sum = 0i32;

@@ -1,4 +1,4 @@
--- The invariant is the plain sum of the products so far (`Sum`). It cannot saturate, because `Room` bounds all products together; it is
+-- The invariant is the plain sum of the products so far (`Sum`). It cannot saturate, because `Headroom` bounds all products together; it is
 -- doubled at the end.
 use Prim.Native.Nat.{_-_, _≤_}
 use mathlib.Core.Path.{_≡_, refl, _∙_}
@@ -11,13 +11,13 @@ use borrow.Author.Needs.{needs, sfits-of}
 use Rattle.math_integers.specs.Halves.{mem}
 use Rattle.math_integers.specs.Ranges.{zfits, back, wide, product-fits}
 use Rattle.standard.specs.Tables.{_at_}
-use Rattle.op_sums.specs.Room.{Room}
+use Rattle.op_sums.specs.Room.{Headroom}
 use Rattle.op_sums.specs.Along.{Sum, sum-start, sum-room, sum-next, sum-fits, sum-end}
 use Rattle.op_sums.proofs.l_sum.Statement.{statement}
 use Rattle.op_sums.proofs.l_sum.Tie as tie
 
 abbrev Inv-loop : tie.InvT-loop
-Inv-loop a b sum₀ i₀ i-end sum i = (i ≤ length a) × ((r : Room a b) × Sum a b (r .most) i (toZ w32 sum))
+Inv-loop a b sum₀ i₀ i-end sum i = (i ≤ length a) × ((r : Headroom a b) × Sum a b (r .most) i (toZ w32 sum))
 
 abbrev μ-loop : tie.MeasureT-loop
 μ-loop a b sum₀ i₀ i-end sum i = length a - i
