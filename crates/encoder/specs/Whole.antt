@@ -39,15 +39,8 @@ module _ (c : Coder) (sop : List ℤ) where
     coded-is = rw (coded-run, ← ed, run-four (c .dp) d, ← en, ← el, ← ee) refl
 
     -- the state, the ending, the marks and the codewords are those of the steps
-    pub state-is : with-history n (dp₄ (c .dp) d) ≡ coded c sop .0
-    state-is = rw coded-is refl
-
-    pub ending-is : e ≡ coded c sop .1 .ending
-    ending-is = rw coded-is refl
-
-    pub marks-are : four-marks (c .dp) d ≡ coded-marks c sop
-    marks-are = rw coded-is refl
-
-    pub words-are : larc ++ four-words (c .dp) d ≡ words (frame (coded c sop .1))
+    pub steps-are : let t = coded c sop in
+        (with-history n (dp₄ (c .dp) d) ≡ t .0) × ((e ≡ t .1 .ending)
+        × ((four-marks (c .dp) d ≡ coded-marks c sop) × (larc ++ four-words (c .dp) d ≡ words (frame (t .1)))))
     unfolding words frame flatten
-    words-are = rw coded-is refl
+    steps-are = rw coded-is (refl, (refl, (refl, refl)))

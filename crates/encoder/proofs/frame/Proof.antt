@@ -19,7 +19,7 @@ use Rattle.lpc_reflection.specs.Promise.{ended}
 use Rattle.frame_analysis.specs.Whole.{coder-of}
 use Rattle.encoder.specs.Promise.{coder, marks}
 use Rattle.encoder.specs.Subframes.{dp₄, four-words, four-marks, four-added, four-length, four-last}
-use Rattle.encoder.specs.Whole.{unseen, with-history, state-is, ending-is, marks-are, words-are}
+use Rattle.encoder.specs.Whole.{unseen, with-history, steps-are}
 use Rattle.encoder.proofs.frame.Statement.{statement}
 use Rattle.encoder.proofs.frame.Tie as tie
 
@@ -89,21 +89,14 @@ module _ (t : tie.After-frame) where
   abbrev start : tie.Start
   start = before-room (ready (t .before))
 
-  next-is : coder-of (t .frame .result .next) ≡ analysis (unseen (c-of start)) (sop start) .next
+  -- what is kept, the codes, the ending and d are those of the analysis
+  analysed-is : let a = analysis (unseen (c-of start)) (sop start) in let r = t .frame .result in
+      (coder-of (r .next) ≡ a .next) × ((r .larc ≡ a .LARc) × ((ended (r .ending) ≡ a .ending) × (t .frame .last .1 .1 .0 ≡ a .d)))
   unfolding coder
-  next-is = rw (back (z1-fits start), back (l-z2-fits start), back (mp-fits start)) at (t .frame .ensures .0)
-
-  larc-is : t .frame .result .larc ≡ analysis (unseen (c-of start)) (sop start) .LARc
-  unfolding coder
-  larc-is = rw (back (z1-fits start), back (l-z2-fits start), back (mp-fits start)) at (t .frame .ensures .1 .0)
-
-  how-is : ended (t .frame .result .ending) ≡ analysis (unseen (c-of start)) (sop start) .ending
-  unfolding coder
-  how-is = rw (back (z1-fits start), back (l-z2-fits start), back (mp-fits start)) at (t .frame .ensures .1 .1 .0)
+  analysed-is = rw (back (z1-fits start), back (l-z2-fits start), back (mp-fits start)) at (t .frame .ensures)
 
   d-is : t .frame .last .1 .1 .0 ≡ d-of start
-  unfolding coder
-  d-is = rw (back (z1-fits start), back (l-z2-fits start), back (mp-fits start)) at (t .frame .ensures .1 .1 .1)
+  d-is = analysed-is .1 .1 .1
 
   z1-after : SFits w16 (t .frame .result .next .z1)
   z1-after = search needs
@@ -149,7 +142,7 @@ module _ (q : tie.After-sub-frames) where
 
   larc-lent : (rest : List ℤ) → take 8 (coded .ratios .last .1 .0 ++ rest) ≡ found .frame .result .larc
   larc-lent rest =
-      let l = ap length (larc-is found) ∙ analysis-codes-length (unseen (c-of begun)) (sop begun) in
+      let l = ap length (analysed-is found .1 .0) ∙ analysis-codes-length (unseen (c-of begun)) (sop begun) in
       take-at _ rest 8 (ap length larc-put ∙ l) ∙ larc-put
 
   marks-given : marks (q .sub-frames .result) ≡ four-marks (begun .args .e .dp) (d-of begun)
@@ -185,16 +178,11 @@ returns c =
     let m = c-of s in
     let unused = drop 280 (kept q .remembered .result) in
     let dp-last : n .last .result ≡ take 120 (drop 160 (q .sub-frames .last .1 .0 ++ unused)) = n .last .ensures in
-    let dp-is = dp-last ∙ last-kept q unused in (
+    let (next-is, (larc-is, (how-is, d-is))) = analysed-is t in
+    let (state, (how, (told, written))) = steps-are m (sop s) next-is larc-is how-is refl in (
       rw (back (z1-after t), back (l-z2-after t), back (mp-after t))
-          (ap (with-history (coder-of (t .frame .result .next))) dp-is ∙ state-is m (sop s) (next-is t) (larc-is t) (how-is t) refl),
-      (
-        c .answered .ensures ∙ ap some (ending-is m (sop s) (next-is t) (larc-is t) (how-is t) refl),
-        (
-          marks-given q ∙ marks-are m (sop s) (next-is t) (larc-is t) (how-is t) refl,
-          words-given q ∙ words-are m (sop s) (next-is t) (larc-is t) (how-is t) refl,
-        ),
-      ),
+          (ap (with-history (coder-of (t .frame .result .next))) (dp-last ∙ last-kept q unused) ∙ state),
+      (c .answered .ensures ∙ ap some how, (marks-given q ∙ told, words-given q ∙ written)),
     )
 
 pub frame-spec : {M : Type 1} → statement M
