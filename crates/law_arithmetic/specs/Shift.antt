@@ -119,7 +119,12 @@ module _ (w : Width) (x : ℤ) where
   shl-left (pos n) e = refl
   shl-left (negsuc n) e = absurd (omega zar)
 
-  -- the result of a left shift is in the range
+  -- the result of either shift is in the range
+  pub shr-word : (n : ℤ) → SFits w x → SFits w (shr w x n)
+  unfolding shr
+  shr-word (pos n) f = shr-fits (2 ^ n) f
+  shr-word (negsuc n) f = keep-fits w (x *ℤ pos (2 ^ suc n))
+
   pub shl-word : (n : ℤ) → SFits w x → SFits w (shl w x n)
   unfolding shl
   shl-word (pos n) f = keep-fits w (x *ℤ pos (2 ^ n))
