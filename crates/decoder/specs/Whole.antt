@@ -1,11 +1,7 @@
 -- 4.3, the whole: what a frame of codewords is decoded to, by the steps in which the code does it.
 use mathlib.Core.Path.{_≡_, refl}
-use mathlib.Core.List.{List, _++_, append-nil, flatten}
-use Prim.Native.Nat.{_≤_}
-use native.Mathlib.Omega.{arith}
+use mathlib.Core.List.{List, flatten}
 use lib.IntN.{ℤ}
-use lib.ListN.{length, take, drop, length-append, drop-of-length-le}
-use lib.Seq.{take-take, take-at}
 use Rattle.standard.specs.Frame.{received}
 use Rattle.standard.specs.ShortTerm.{ratios}
 use Rattle.standard.specs.Decoder as standard
@@ -30,16 +26,3 @@ pub whole : (m : standard.Decoder) (c drp : List ℤ) (nrp : ℤ) (larpp v : Lis
     → (record { drp = drp; nrp = nrp; LARpp = larpp; v = v; msr = msr } ≡ standard.decoded m (received c) .0)
     × (samples ≡ standard.decoded m (received c) .1)
 whole m c drp nrp larpp v msr samples a b l e f g = rw (decoded-is m c, a, b, e, f, g, l) (refl, refl)
-
--- ---- one list for the history and the residual
-
-module _ {A : Type 0} (drp z : List A) (d : length drp ≡ 120) (l : length z ≡ 160) where
-  -- it is passed whole, and starts with the history
-  pub lent-history : take 120 (take 280 (drp ++ z)) ≡ drp
-  lent-history = rw (take-take 120 280 (drp ++ z) (omega arith)) (take-at drp z 120 d)
-
-  -- nothing is behind the 280 that are passed
-  pub lent-all : (y : List A) → y ++ drop 280 (drp ++ z) ≡ y
-  lent-all y =
-      let whole : length (drp ++ z) ≤ 280 = rw length-append (omega arith) in
-      rw (drop-of-length-le (drp ++ z) {i = 280} whole, append-nil)

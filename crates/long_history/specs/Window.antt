@@ -33,6 +33,19 @@ window-updated x new a h = rw (drop-drop 40 a x, drop-append-le (a + 40) x new h
 pub put-last : {A : Type 0} (xs ys : List A) → length xs ≡ 160 → put 120 40 xs ys ≡ take 120 xs ++ ys
 put-last xs ys h = rw (drop-drop, drop-of-length-le xs {i = 160} (omega arith), append-nil)
 
+-- ---- the whole list
+
+module _ {A : Type 0} (dp z : List A) (d : length dp ≡ 120) (l : length z ≡ 160) where
+  -- it is passed whole, and starts with the history
+  pub lent-history : take 120 (take 280 (dp ++ z)) ≡ dp
+  lent-history = rw (take-take 120 280 (dp ++ z) (omega arith)) (take-at dp z 120 d)
+
+  -- nothing is behind the 280 that are passed
+  pub lent-all : (y : List A) → y ++ drop 280 (dp ++ z) ≡ y
+  lent-all y =
+      let whole : length (dp ++ z) ≤ 280 = rw length-append (omega arith) in
+      rw (drop-of-length-le (dp ++ z) {i = 280} whole, append-nil)
+
 -- ---- sub-frame by sub-frame
 
 -- the last 120 of x, from index a on, are the history dp

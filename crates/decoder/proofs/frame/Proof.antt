@@ -14,7 +14,8 @@ use Rattle.math_integers.specs.Ranges.{back, res}
 use Rattle.frame_received.specs.Received.{ratio-words, frame-reconstructed}
 use Rattle.frame_received.specs.Frame.{samples-length, samples-after, history-after}
 use Rattle.decoder.specs.Promise.{memory}
-use Rattle.decoder.specs.Whole.{whole, lent-history, lent-all}
+use Rattle.long_history.specs.Window.{lent-history, lent-all}
+use Rattle.decoder.specs.Whole.{whole}
 use Rattle.decoder.proofs.frame.Statement.{statement}
 use Rattle.decoder.proofs.frame.Tie as tie
 

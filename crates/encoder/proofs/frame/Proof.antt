@@ -6,8 +6,8 @@ use mathlib.Core.Option.{some}
 use mathlib.Core.List.{List, _++_}
 use native.Mathlib.Omega.{arith}
 use lib.IntN.{ℤ, pos}
-use lib.ListN.{length, take, drop, replicate, length-append, length-drop}
-use lib.Seq.{take-at, take-take, drop-append-le}
+use lib.ListN.{length, take, drop, replicate, length-replicate, length-append, length-drop}
+use lib.Seq.{take-at, drop-append-le}
 use mir.Syntax.{w16, w32}
 use mir.Val.{SFits}
 use borrow.Author.Needs.{needs}
@@ -16,6 +16,7 @@ use Rattle.standard.specs.Coder.{Coder, analysis}
 use Rattle.standard.specs.House.{sound-coder}
 use Rattle.law_lengths.specs.Analysis.{analysis-codes-length, analysis-d-length}
 use Rattle.lpc_reflection.specs.Promise.{ended}
+use Rattle.long_history.specs.Window.{lent-history}
 use Rattle.frame_analysis.specs.Whole.{coder-of}
 use Rattle.encoder.specs.Promise.{coder, marks}
 use Rattle.encoder.specs.Subframes.{dp₄, four-words, four-marks, four-added, four-length, four-last}
@@ -131,10 +132,8 @@ module _ (q : tie.After-sub-frames) where
   -- the history as the sub-frames read it
   dp-lent : take 120 (take 280 (kept .remembered .result)) ≡ begun .args .e .dp
   dp-lent =
-      let h = begun .args .e .dp in
-      let z = replicate 160 (pos 0) in
       ap (λ (y : List ℤ). take 120 (take 280 y)) (kept .remembered .ensures)
-      ∙ (take-take 120 280 (h ++ z) (omega arith) ∙ take-at h z 120 (history begun))
+      ∙ lent-history (begun .args .e .dp) (replicate 160 (pos 0)) (history begun) (length-replicate 160 (pos 0))
 
   -- the codes of the ratios in front of the codewords
   larc-put : coded .ratios .last .1 .0 ≡ found .frame .result .larc
