@@ -1,13 +1,13 @@
 -- House rules, 'Six sums' (c) and (d): the scaled d is at most 512 in size, the sum at each lag and the power at most 1342177280.
 use Prim.Native.Nat.{ℕ, _+_, _*_, _-_, _^_, _<_, _≤_}
-use mathlib.Core.Path.{_≡_, sym, ap, _∙_}
+use mathlib.Core.Path.{_≡_, ap, _∙_}
 use mathlib.Core.Bool.{true, false, cond}
-use mathlib.Core.List.{List, zipWith, foldl}
+use mathlib.Core.List.{List}
 use mathlib.Core.Logic.{⊎-elim}
 use native.Mathlib.Omega.{arith}
 use native.Mathlib.Nat.{mul-le-mul-left, lt-of-mul-lt-mul-right}
-use lib.IntN.{ℤ, pos, _+ℤ_, _*ℤ_, natAbs}
-use lib.ListN.{length, drop, length-map}
+use lib.IntN.{ℤ, pos, _*ℤ_, natAbs}
+use lib.ListN.{length, drop}
 use lib.Pow.{pow-add, pow-mono}
 use lib.Signed.{ltZ}
 use mir.Syntax.{w16, w32}
@@ -17,18 +17,18 @@ use Rattle.math_integers.specs.Halves.{P, N, zar, know, apart, abs-is, le-or-lt
 use Rattle.math_integers.specs.Sums.{scale-is, minus-is}
 use Rattle.math_lists.specs.Every.{every, every-at, every-take, every-drop, every-places, every-map}
 use Rattle.math_lists.specs.First.{by-cond}
-use Rattle.standard.specs.Arithmetic.{is-zero, within, up, _>>_, shl, shr, sub, norm, peak, L-mult, L-sum}
 use Rattle.standard.specs.Tables.{_at_}
-use Rattle.standard.specs.LongTerm.{back, scal, correlations, L-power}
+use Rattle.standard.specs.Arithmetic.{is-zero, within, up, _>>_, shl, shr, sub, norm, peak}
+use Rattle.standard.specs.LongTerm.{back, scal, L-power}
 use Rattle.law_arithmetic.specs.Clip.{abs-clip, minus-clip}
 use Rattle.law_arithmetic.specs.Norm.{Normal, normal, norm-exact}
 use Rattle.law_arithmetic.specs.Shift.{down-in, shr-right}
 use Rattle.law_arithmetic.specs.Within.{within-yes, word, word-is}
 use Rattle.law_fields.specs.Amplitudes.{peak-halves, peak-up, peak-covers}
 use Rattle.law_lengths.specs.Subframes.{Lag, back-length}
-use Rattle.op_sums.specs.Room.{at-most, words-sized, sized-steps, sized-in}
-use Rattle.op_sums.specs.Squares.{shifted, squares-steps, squares-in}
-use Rattle.long_search.specs.Search.{scaled, correlated-at}
+use Rattle.op_sums.specs.Room.{at-most}
+use Rattle.op_sums.specs.Squares.{squares-in}
+use Rattle.long_search.specs.Search.{scaled}
 
 -- ---- the scaling of d
 
@@ -114,41 +114,12 @@ pub scaled-small : (d : List ℤ) → every word d ≡ true → every (at-most 5
 scaled-small d ws =
     rw every-map (every-places _ d (pos 0) (λ i h. le-leb _ 512 (scal-small d i h (word-is (d at i) (every-at word d i (pos 0) ws h)))))
 
--- ---- the sum and the power at each lag
+-- ---- the power at each lag
 
 -- the words of dp at a lag
 back-words : (lag : ℕ) (dp : List ℤ) → every word dp ≡ true → every word (back lag dp) ≡ true
 unfolding back
 back-words lag dp ws = every-take word 40 (drop (120 - lag) dp) (every-drop word (120 - lag) dp ws)
-
--- for all words d and dp of the lengths that 4.2.11 has, and each lag
-module _ (d dp : List ℤ) (ds : every word d ≡ true) (dps : every word dp ≡ true) (m : length d ≡ 40) (n : length dp ≡ 120)
-    (lag : ℕ) (l : Lag lag) where
-  scaled-length : length (scaled d) ≡ 40
-  scaled-length = length-map d _ ∙ m
-
-  same : length (scaled d) ≡ length (back lag dp)
-  same = scaled-length ∙ sym (back-length lag dp l n)
-
-  back-small : every (at-most 32768) (back lag dp) ≡ true
-  back-small = words-sized (back lag dp) (back-words lag dp dps)
-
-  entry : correlations d dp at (lag - 40) ≡ L-sum (pos 0) (scaled d) (back lag dp)
-  unfolding correlations
-  entry =
-      let e : 40 + (lag - 40) ≡ lag = omega (arith, l .least) in
-      correlated-at (scaled d) dp (lag - 40) (omega (arith, l .most)) ∙ ap (λ (k : ℕ). L-sum (pos 0) (scaled d) (back k dp)) e
-
-  -- the sum at each lag is at most 1342177280 in size
-  pub correlation-in : natAbs (correlations d dp at (lag - 40)) ≤ 1342177280
-  correlation-in =
-      let s = scaled-length in
-      rw entry (omega (arith, sized-in 512 32768 (scaled d) (back lag dp) (scaled-small d ds) back-small same (omega arith)))
-
-  -- and is the plain sum: no step saturates
-  pub correlation-steps : correlations d dp at (lag - 40) ≡ foldl _+ℤ_ (pos 0) (zipWith L-mult (scaled d) (back lag dp))
-  correlation-steps =
-      entry ∙ sized-steps 512 32768 (scaled d) (back lag dp) (scaled-small d ds) back-small same (omega (arith, scaled-length))
 
 -- for all words dp, and each lag
 module _ (dp : List ℤ) (dps : every word dp ≡ true) (n : length dp ≡ 120) (lag : ℕ) (l : Lag lag) where
@@ -159,11 +130,6 @@ module _ (dp : List ℤ) (dps : every word dp ≡ true) (n : length dp ≡ 120) 
   pub power-in : within (pos 0) (pos 1342177280) (L-power lag dp) ≡ true
   unfolding L-power
   power-in = squares-in 3 (back lag dp) (omega arith) (back-words lag dp dps) room 1342177280 (omega (arith, back-length lag dp l n))
-
-  -- and is the plain sum: no step saturates
-  pub power-steps : let wt = shifted 3 (back lag dp) in L-power lag dp ≡ foldl _+ℤ_ (pos 0) (zipWith L-mult wt wt)
-  unfolding L-power
-  power-steps = squares-steps 3 (back lag dp) (omega arith) (back-words lag dp dps) room
 
 -- ---- the gain
 

@@ -17,13 +17,13 @@ use Rattle.math_integers.specs.Halves.{P, zar, know, apart, abs-is}
 use Rattle.math_integers.specs.Sums.{add-is, mul-in}
 use Rattle.math_lists.specs.Every.{every, every-at, every-places, every-map, every-take, every-drop}
 use Rattle.math_lists.specs.Tab.{tab-at-zero, zip-front}
-use Rattle.standard.specs.Arithmetic.{shl, mult-r, norm, L-mult, L-add, peak, L-sum}
 use Rattle.standard.specs.Tables.{_at_}
+use Rattle.standard.specs.Arithmetic.{shl, mult-r, norm, L-mult, L-add, peak, L-sum}
 use Rattle.standard.specs.Lpc.{scalauto, scaled, L-ACF}
 use Rattle.law_arithmetic.specs.Within.{word, word-is}
 use Rattle.law_arithmetic.specs.Product.{mult-r-in}
 use Rattle.law_arithmetic.specs.Norm.{normal, norm-exact}
-use Rattle.op_sums.specs.Room.{at-most, Headroom, L-sum-steps, L-sum-plain, L-sum-in}
+use Rattle.op_sums.specs.Room.{at-most, Headroom, L-sum-plain, L-sum-in}
 use Rattle.lpc_autocorrelation.specs.Energy.{energy, energy-take, energy-drop, squares, products-most}
 use Rattle.lpc_autocorrelation.specs.Scale.{Scale, Unscaled, powers, smax-covers, scale-cases, scaled-by, scaled-not}
 
@@ -73,10 +73,6 @@ module _ (a b : List ℤ) (l : length a ≡ length b) (m : length a ≤ 160)
   pub small-room : Headroom a b
   small-room = record { same = l; most = 4194304; each = λ i h _ _. product-in i h; fits = products-fit }
 
-  -- no step of it saturates
-  small-steps : L-sum (pos 0) a b ≡ foldl _+ℤ_ (pos 0) (zipWith L-mult a b)
-  small-steps = L-sum-steps a b 4194304 l product-in products-fit
-
   -- it is twice the plain sum of the products
   small-plain : let t = foldl _+ℤ_ (pos 0) (zipWith _*ℤ_ a b) in L-sum (pos 0) a b ≡ t +ℤ t
   small-plain = L-sum-plain a b 4194304 l product-in products-fit
@@ -123,10 +119,6 @@ module _ (s : List ℤ) (l : length s ≡ 160) (h : every (at-most 2048) s ≡ t
 
   early-small : every (at-most 2048) early ≡ true
   early-small = every-take (at-most 2048) (160 - k) s h
-
-  -- no step of it saturates: it is the plain sum of the products, each doubled
-  pub L-ACF-steps : L-ACF s at k ≡ foldl _+ℤ_ (pos 0) (zipWith L-mult (drop k s) s)
-  L-ACF-steps = rw (front s l k p L-mult) (L-ACF-at s l k p ∙ small-steps late early same few late-small early-small)
 
   -- it is within 1342177280
   pub L-ACF-in : natAbs (L-ACF s at k) ≤ 1342177280

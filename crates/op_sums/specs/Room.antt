@@ -16,8 +16,8 @@ use Rattle.math_integers.specs.Halves.{zar, know, apart, abs-is}
 use Rattle.math_integers.specs.Sums.{add-is, mul-in}
 use Rattle.math_lists.specs.Every.{every, every-at, every-so}
 use Rattle.math_lists.specs.Tab.{zip-at, zip-length}
-use Rattle.standard.specs.Arithmetic.{L-mult, L-sum}
 use Rattle.standard.specs.Tables.{_at_}
+use Rattle.standard.specs.Arithmetic.{L-mult, L-sum}
 use Rattle.law_arithmetic.specs.Clip.{clip-plain}
 use Rattle.law_arithmetic.specs.Sum.{sum-in, sum-plain}
 use Rattle.law_arithmetic.specs.Within.{word, word-is}
@@ -119,11 +119,7 @@ module _ (A B : ℕ) (a b : List ℤ) (p : every (at-most A) a ≡ true) (q : ev
     pub sized-room : Headroom a b
     sized-room = record { same = l; most = A * B; each = λ i h _ _. each i h; fits = f }
 
-    -- no step of the sum saturates
-    pub sized-steps : L-sum (pos 0) a b ≡ foldl _+ℤ_ (pos 0) (zipWith L-mult a b)
-    sized-steps = L-sum-steps a b (A * B) l each f
-
-    -- it is the plain sum, doubled
+    -- the sum is the plain sum, doubled
     pub sized-plain : let s = foldl _+ℤ_ (pos 0) (zipWith _*ℤ_ a b) in L-sum (pos 0) a b ≡ s +ℤ s
     sized-plain = L-sum-plain a b (A * B) l each f
 

@@ -13,10 +13,10 @@ use borrow.Author.Tests.{le-leb}
 use Rattle.math_integers.specs.Halves.{N, zar, know, apart, abs-is}
 use Rattle.math_integers.specs.Sums.{add-is, mul-in}
 use Rattle.math_lists.specs.Every.{every, every-map, every-so}
-use Rattle.standard.specs.Arithmetic.{_>>_, within, L-mult, L-sum, L-squares}
+use Rattle.standard.specs.Arithmetic.{_>>_, within, L-sum, L-squares}
 use Rattle.law_arithmetic.specs.Shift.{down-in}
 use Rattle.law_arithmetic.specs.Within.{within-yes, word, word-is}
-use Rattle.op_sums.specs.Room.{at-most, sized-steps, sized-plain, sized-in}
+use Rattle.op_sums.specs.Room.{at-most, sized-plain, sized-in}
 
 -- a word that was shifted right by n
 shifted-in : (n : ℕ) (x : ℤ) → n ≤ 15 → SFits w16 x → natAbs (x >> n) ≤ 2 ^ (15 - n)
@@ -56,12 +56,7 @@ module _ (n : ℕ) (xs : List ℤ) where
     fits : length shifted * (2 ^ (15 - n) * 2 ^ (15 - n)) < 1073741824
     fits = rw (length-map xs (λ x. x >> n)) f
 
-    -- no step of the sum saturates
-    pub squares-steps : L-squares n xs ≡ foldl _+ℤ_ (pos 0) (zipWith L-mult shifted shifted)
-    unfolding L-squares
-    squares-steps = sized-steps _ _ shifted shifted small small refl fits
-
-    -- and it is from 0 to twice its bound
+    -- the sum is from 0 to twice its bound
     pub squares-in : (most : ℕ) → 2 * (length xs * (2 ^ (15 - n) * 2 ^ (15 - n))) ≤ most → within (pos 0) (pos most) (L-squares n xs) ≡ true
     unfolding L-squares
     squares-in most k =
