@@ -3,10 +3,11 @@
 use Prim.Native.Nat.{ℕ}
 use mathlib.Core.Path.{_≡_, refl, ap}
 use native.Mathlib.Nat.{suc-ne-zero}
-use mathlib.Core.Option.{Option·some-ne-none}
+use native.Mathlib.Omega.{arith}
+use mathlib.Core.Option.{Option, none, some, Option·some-ne-none}
 use mathlib.Core.List.{List, [], _∷_, map, flatten}
 use lib.IntN.{ℤ, pos, natAbs}
-use lib.ListN.{replicate}
+use lib.ListN.{drop, replicate}
 use Rattle.standard.specs.Arithmetic.{peak}
 use Rattle.standard.specs.Tables.{neg, _at_}
 use Rattle.standard.specs.House.{home-coder, home-decoder}
@@ -116,3 +117,26 @@ breaks h = Option·some-ne-none _ (h .1 .0 refl)
 pub apart : ¬ along Shown home (calls home lost)
 unfolding opened along calls call after Shown coder memory pulses second-frame
 apart s = suc-ne-zero 30 (ap (λ l. natAbs (l at 1)) (s .1 .1 .0 refl .0))
+
+-- a valid bit of the first codeword is turned over on the way
+abbrev pub changed : List Ask
+changed = encode pulses (zeros 76) ∷ decode (pos 43 ∷ drop 1 first-frame) (zeros 160) ∷ []
+
+-- the first codeword of a frame, if there is one
+first-word : Option (List ℤ) → ℕ
+first-word none = 0
+first-word (some c) = natAbs (c at 0)
+
+-- so the decode breaks the condition
+pub breaks-changed : ¬ along Handed home (calls home changed)
+unfolding opened along calls call after Handed coder memory pulses first-frame first-word
+breaks-changed h =
+    let same : 42 ≡ 43 = ap first-word (h .1 .0 refl) in
+    absurd (omega arith)
+
+-- and the ends differ in their first ratio
+pub apart-changed : ¬ along Shown home (calls home changed)
+unfolding opened along calls call after Shown coder memory pulses first-frame
+apart-changed s =
+    let same : 8192 ≡ 9012 = ap (λ l. natAbs (l at 0)) (s .1 .0 refl .1) in
+    absurd (omega arith)

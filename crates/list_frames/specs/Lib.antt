@@ -1,4 +1,4 @@
--- All that the specs of this crate have: what listed promises, that the calls give the whole listing, and useless versions of ended.
+-- All that the specs of this crate have: what listed promises, that the calls give the whole listing, useless versions of the calls.
 pub mod Promise
 pub mod Whole
 pub mod Useless

@@ -1,4 +1,4 @@
--- House rules, 'What counts as shown' (c): useless versions of ended, and that none of them keeps its promise.
+-- House rules, 'What counts as shown' (c): useless versions of start and of ended, and that none of them keeps its promise.
 use Prim.Native.Nat.{ℕ, zero, suc, _+_, _*_, _-_, _/_, _%_, _^_, _≤_, _<_}
 use mathlib.Core.Path.{_≡_, sym, ap, _∙_}
 use mathlib.Core.Logic.{⊎-elim}
@@ -15,7 +15,9 @@ use Rattle.standard.specs.Listing.{text, digits, decimal, E-line}
 use Rattle.list_text.specs.Written.{Puts, puts-front}
 use Rattle.list_text.specs.Fields.{digit-count, digit-count-most}
 use Rattle.list_borders.specs.Borders.{E-end}
+use Rattle.standard.specs.House.{home-coder}
 use Rattle.list_frames.specs.declared.Lister.{Lister}
+use Rattle.list_frames.specs.Promise.{State, state}
 
 -- ---- the E line tells its count
 
@@ -68,3 +70,9 @@ module _ (l : Lister) (rest : ℕ) (lent : List ℕ) (r : ℕ) (left : List ℕ)
   pub unlisted-counted : l .frames * 320 + 320 + rest ≤ 320000000 → take r left ≡ E-line (l .frames * 320 + 320 + rest)
       → ¬ Puts 0 (E-line (l .frames * 320 + rest)) lent r left
   unlisted-counted h = invented-count (l .frames * 320 + 320 + rest) h (λ e. absurd (omega arith))
+
+-- ---- a start that has listed a frame, or that is at the limit
+
+pub started-late : (l : Lister) → state l ≡ (0, home-coder) → (n : ℕ) → ¬ (l .frames ≡ suc n)
+unfolding state
+started-late l h n e = absurd (omega (arith, sym e ∙ ap (λ (s : State). s .0) h))

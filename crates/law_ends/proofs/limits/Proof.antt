@@ -29,7 +29,8 @@ returns c =
     let third = c .before in
     let second = third .before .before in
     let first = second .before .before in
-    let s = first .before .before .before .before .before in
+    let parts = first .before .before in
+    let s = parts .before .before .before in
     let (larpp, u, dp) = sizes s in
     let carried : Carried (coder (s .args .e)) =
     record {
