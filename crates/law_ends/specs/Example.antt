@@ -131,12 +131,12 @@ first-word (some c) = natAbs (c at 0)
 pub breaks-changed : ¬ along Handed home (calls home changed)
 unfolding opened along calls call after Handed coder memory pulses first-frame first-word
 breaks-changed h =
-    let same : 42 ≡ 43 = ap first-word (h .1 .0 refl) in
+    let same : _≡_ {A = ℕ} 42 43 = ap first-word (h .1 .0 refl) in
     absurd (omega arith)
 
 -- and the ends differ in their first ratio
 pub apart-changed : ¬ along Shown home (calls home changed)
 unfolding opened along calls call after Shown coder memory pulses first-frame
 apart-changed s =
-    let same : 8192 ≡ 9012 = ap (λ l. natAbs (l at 0)) (s .1 .0 refl .1) in
+    let same : _≡_ {A = ℕ} 8192 9012 = ap (λ l. natAbs (l at 0)) (s .1 .0 refl .1) in
     absurd (omega arith)
