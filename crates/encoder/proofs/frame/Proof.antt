@@ -6,12 +6,13 @@ use mathlib.Core.Option.{some}
 use mathlib.Core.List.{List, _++_}
 use native.Mathlib.Omega.{arith}
 use lib.IntN.{ℤ, pos}
-use lib.ListN.{length, take, drop, replicate, length-replicate, length-append, length-drop}
+use lib.ListN.{length, take, drop, replicate, length-replicate, length-drop}
 use lib.Seq.{take-at, drop-append-le}
 use mir.Syntax.{w16, w32}
 use mir.Val.{SFits}
 use borrow.Author.Needs.{needs}
 use Rattle.math_integers.specs.Ranges.{back}
+use Rattle.math_lists.specs.Parts.{front-back, front-room}
 use Rattle.standard.specs.Coder.{Coder, analysis}
 use Rattle.standard.specs.House.{sound-coder}
 use Rattle.law_lengths.specs.Analysis.{analysis-codes-length, analysis-d-length}
@@ -110,10 +111,10 @@ module _ (t : tie.After-frame) where
 
   -- d as the sub-frames read it, at the front of the buffer that was passed
   d-back : (rest : List ℤ) → take 160 (t .frame .last .1 .1 .0 ++ rest) ≡ d-of start
-  d-back rest = take-at _ rest 160 (ap length d-is ∙ d-length start) ∙ d-is
+  d-back = front-back 160 d-is (d-length start)
 
   d-room : (rest : List ℤ) → 160 ≤ length (t .frame .last .1 .1 .0 ++ rest)
-  d-room rest = omega (arith, length-append (t .frame .last .1 .1 .0) rest, ap length d-is, d-length start)
+  d-room = front-room 160 d-is (d-length start)
 
 -- 4.2.11 to 4.2.18
 module _ (q : tie.After-sub-frames) where
@@ -142,7 +143,7 @@ module _ (q : tie.After-sub-frames) where
   larc-lent : (rest : List ℤ) → take 8 (coded .ratios .last .1 .0 ++ rest) ≡ found .frame .result .larc
   larc-lent rest =
       let l = ap length (analysed-is found .1 .0) ∙ analysis-codes-length (unseen (c-of begun)) (sop begun) in
-      take-at _ rest 8 (ap length larc-put ∙ l) ∙ larc-put
+      front-back 8 larc-put l rest
 
   marks-given : marks (q .sub-frames .result) ≡ four-marks (begun .args .e .dp) (d-of begun)
   marks-given = q .sub-frames .ensures .0 ∙ ap₂ four-marks dp-lent (d-back found _)
@@ -153,12 +154,15 @@ module _ (q : tie.After-sub-frames) where
   added-given : q .sub-frames .last .1 .0 ≡ four-added (begun .args .e .dp) (d-of begun)
   added-given = q .sub-frames .ensures .1 .1 ∙ ap₂ four-added dp-lent (d-back found _)
 
-  -- 280 samples, of which the last 120 are kept
+  -- the history and four sub-frames are 280 samples, of which the last 120 are kept
+  four-are : length (four-added (begun .args .e .dp) (d-of begun)) ≡ 280
+  four-are = four-length (begun .args .e .dp) (d-of begun) (history begun)
+
   added-length : length (q .sub-frames .last .1 .0) ≡ 280
-  added-length = ap length added-given ∙ four-length (begun .args .e .dp) (d-of begun) (history begun)
+  added-length = ap length added-given ∙ four-are
 
   added-room : (rest : List ℤ) → 280 ≤ length (q .sub-frames .last .1 .0 ++ rest)
-  added-room rest = omega (arith, length-append (q .sub-frames .last .1 .0) rest, added-length)
+  added-room = front-room 280 added-given four-are
 
   last-kept : (rest : List ℤ) → take 120 (drop 160 (q .sub-frames .last .1 .0 ++ rest)) ≡ dp₄ (begun .args .e .dp) (d-of begun)
   last-kept rest =
