@@ -1,4 +1,3 @@
--- All that the specs of this crate have: what reading promises, a loop that codes the frames of a buffer, and needs answered as one.
+-- All that the specs of this crate have: what reading promises, and a loop that codes the frames of a buffer.
 pub mod Promise
 pub mod Frames
-pub mod Needs

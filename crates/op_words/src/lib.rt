@@ -1,5 +1,5 @@
-// 4.1: the operations whose result is a word, and a word as an index. Each promise is that the
-// result is the standard's, exact at the ends of the range.
+// 4.1: the operations whose result is a word, and a word as an index. Each promise is that the result is the
+// standard's, exact at the ends of the range.
 ghost use mathlib.Core.Path.{_≡_};
 ghost use mir.Syntax.{w16};
 ghost use Rattle.math_integers.specs.Halves.{P};

@@ -2,8 +2,8 @@
 use Prim.Native.Nat.{_-_}
 use native.Mathlib.Omega.{arith}
 use borrow.Author.Needs.{needs}
+use Rattle.math_integers.specs.Needs.{by-12}
 use Rattle.decoder.specs.Promise.{memory}
-use Rattle.io_streams.specs.Needs.{by-12}
 use Rattle.io_streams.specs.Frames.{Coding, coding-start, coding-next, coding-end}
 use Rattle.decode.specs.Frame.{decoded}
 use Rattle.decode.proofs.code.Statement.{statement}

@@ -1,6 +1,6 @@
 -- The codewords are the words of the bytes, and the bytes left are those of the samples that decode answers.
 use borrow.Author.Needs.{needs}
-use Rattle.io_streams.specs.Needs.{by-8}
+use Rattle.math_integers.specs.Needs.{by-8}
 use Rattle.decode.specs.Frame.{decoded}
 use Rattle.decode.proofs.frame.Statement.{statement}
 use Rattle.decode.proofs.frame.Tie as tie

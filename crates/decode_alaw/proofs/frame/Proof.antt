@@ -3,8 +3,8 @@ use mathlib.Core.Path.{_≡_}
 use native.Mathlib.Omega.{arith}
 use lib.ListN.{length}
 use borrow.Author.Needs.{needs}
+use Rattle.math_integers.specs.Needs.{by-8}
 use Rattle.io_streams.specs.Frames.{puts-all}
-use Rattle.io_streams.specs.Needs.{by-8}
 use Rattle.decode_alaw.specs.Frame.{decoded}
 use Rattle.decode_alaw.proofs.frame.Statement.{statement}
 use Rattle.decode_alaw.proofs.frame.Tie as tie

@@ -3,7 +3,7 @@ use Prim.Native.Nat.{_<_}
 use mathlib.Core.Path.{_≡_}
 use lib.ListN.{length}
 use borrow.Author.Needs.{needs}
-use Rattle.io_streams.specs.Needs.{by-8}
+use Rattle.math_integers.specs.Needs.{by-8}
 use Rattle.decode_alaw.proofs.main.Statement.{statement}
 use Rattle.decode_alaw.proofs.main.Tie as tie
 

@@ -1,6 +1,6 @@
 -- The samples are the words of the bytes, and the bytes left are those of the codewords that encode answers.
 use borrow.Author.Needs.{needs}
-use Rattle.io_streams.specs.Needs.{by-8}
+use Rattle.math_integers.specs.Needs.{by-8}
 use Rattle.encode.specs.Frame.{encoded}
 use Rattle.encode.proofs.frame.Statement.{statement}
 use Rattle.encode.proofs.frame.Tie as tie

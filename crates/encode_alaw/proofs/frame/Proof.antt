@@ -1,6 +1,6 @@
 -- The bytes left are those of the codewords that encode_alaw answers.
 use borrow.Author.Needs.{needs}
-use Rattle.io_streams.specs.Needs.{by-4}
+use Rattle.math_integers.specs.Needs.{by-4}
 use Rattle.encode_alaw.specs.Frame.{encoded}
 use Rattle.encode_alaw.proofs.frame.Statement.{statement}
 use Rattle.encode_alaw.proofs.frame.Tie as tie

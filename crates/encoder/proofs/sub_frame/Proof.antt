@@ -9,6 +9,7 @@ use native.Mathlib.Omega.{arith}
 use lib.IntN.{ℤ, pos}
 use lib.Signed.{ltZ}
 use borrow.Author.Needs.{needs}
+use Rattle.math_integers.specs.Needs.{by-12}
 use Rattle.math_lists.specs.Parts.{put}
 use Rattle.standard.specs.Frame.{sub-words}
 use Rattle.standard.specs.Coder.{Subcoded, sub-coded}
@@ -57,21 +58,4 @@ returns c =
 
 pub sub-frame-spec : {M : Type 1} → statement M
 sub-frame-spec =
-    tie.close
-    (tie.spec
-    (λ c. search needs)
-    (λ c. search needs)
-    (λ c. search needs)
-    (λ c. search needs)
-    (λ c. search needs)
-    (λ c. search needs)
-    (λ c. search needs)
-    (λ c. search needs)
-    (λ c. search needs)
-    (λ c. search needs)
-    (λ c. search needs)
-    (λ c κs. search needs)
-    (λ c κs. search needs)
-    (λ c. search needs)
-    (λ c. search needs)
-    returns)
+    tie.close (by-12 tie.spec (search needs) (λ c κs. search needs) (λ c. search needs) (λ c. search needs) returns)

@@ -6,6 +6,7 @@ use native.Mathlib.Omega.{arith}
 use lib.IntN.{ℤ}
 use lib.ListN.{length, take, drop, length-drop}
 use borrow.Author.Needs.{needs}
+use Rattle.math_integers.specs.Needs.{by-4, by-12}
 use Rattle.long_history.specs.Window.{Stands, stands-start, stands-all}
 use Rattle.encoder.specs.Promise.{mark, marks}
 use Rattle.encoder.specs.Subframes.{dp₁, dp₂, dp₃, added₁, added₂, added₃, Turned, turn, four-put}
@@ -83,24 +84,4 @@ returns c =
 
 pub sub-frames-spec : {M : Type 1} → statement M
 sub-frames-spec =
-    tie.close
-    (tie.spec
-    (λ c. search needs)
-    (λ c. search needs)
-    (λ c. search needs)
-    (λ c κs. search needs)
-    (λ c. search needs)
-    (λ c. search needs)
-    (λ c. search needs)
-    (λ c κs. search needs)
-    (λ c. search needs)
-    (λ c. search needs)
-    (λ c. search needs)
-    (λ c κs. search needs)
-    (λ c. search needs)
-    (λ c. search needs)
-    (λ c. search needs)
-    (λ c κs. search needs)
-    (λ c. search needs)
-    (λ c. search needs)
-    returns)
+    tie.close (by-4 (by-12 tie.spec (search needs)) (search needs) (λ c. search needs) (λ c. search needs) returns)

@@ -2,7 +2,7 @@
 use mathlib.Core.Path.{_≡_}
 use lib.ListN.{length}
 use borrow.Author.Needs.{needs}
-use Rattle.io_streams.specs.Needs.{by-8}
+use Rattle.math_integers.specs.Needs.{by-8}
 use Rattle.expand.proofs.turns.Statement.{statement}
 use Rattle.expand.proofs.turns.Tie as tie
 

@@ -8,6 +8,7 @@ use mir.Syntax.{w16, w32}
 use mir.Val.{SFits, toZ, ofZ}
 use borrow.Author.Needs.{needs}
 use Rattle.math_integers.specs.Ranges.{back, res}
+use Rattle.math_integers.specs.Needs.{by-4}
 use Rattle.math_lists.specs.Parts.{front-back, front-room}
 use Rattle.math_lists.specs.Scan.{run, run-length}
 use Rattle.standard.specs.Preprocessing.{offset, emphasis, downscaled}
@@ -186,12 +187,9 @@ returns c =
 
 pub frame-spec : {M : Type 1} → statement M
 frame-spec =
+    let part-1 = by-4 tie.spec (search needs) in
     tie.close
-    (tie.spec
-    (λ c κs. search needs)
-    (λ c. search needs)
-    (λ c. search needs)
-    (λ c. search needs)
+    (part-1
     offset-requires
     (λ c. search needs)
     (λ c. search needs)

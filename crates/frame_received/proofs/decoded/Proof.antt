@@ -11,6 +11,7 @@ use lib.ListN.{length, take, drop, length-drop}
 use mir.Syntax.{w16}
 use Rattle.math_integers.specs.Halves.{mem}
 use Rattle.math_integers.specs.Ranges.{back, res}
+use Rattle.math_integers.specs.Needs.{by-4}
 use Rattle.math_lists.specs.Parts.{put}
 use Rattle.law_lengths.specs.Subframes.{full}
 use Rattle.long_history.specs.Window.{stands-start, stands-all}
@@ -121,35 +122,8 @@ returns c =
 
 pub decoded-spec : {M : Type 1} → statement M
 decoded-spec =
-    tie.close
-    (tie.spec
-    (λ c. search needs)
-    (λ c. search needs)
-    (λ c. search needs)
-    (λ c. search needs)
-    (λ c. search needs)
-    (λ c. search needs)
-    (λ c κs. search needs)
-    (λ c. search needs)
-    (λ c. search needs)
-    (λ c. search needs)
-    (λ c. search needs)
-    (λ c. search needs)
-    (λ c. search needs)
-    requires-2
-    (λ c. search needs)
-    (λ c. search needs)
-    (λ c. search needs)
-    (λ c. search needs)
-    (λ c. search needs)
-    (λ c. search needs)
-    requires-3
-    (λ c. search needs)
-    (λ c. search needs)
-    (λ c. search needs)
-    (λ c. search needs)
-    (λ c. search needs)
-    (λ c. search needs)
-    requires-4
-    (λ c. search needs)
-    returns)
+    let part-1 = by-4 tie.spec (search needs) in
+    let part-2 = by-4 (part-1 (λ c. search needs) (λ c. search needs) (λ c κs. search needs)) (search needs) in
+    let part-3 = by-4 (part-2 (λ c. search needs) (λ c. search needs) requires-2) (search needs) in
+    let part-4 = by-4 (part-3 (λ c. search needs) (λ c. search needs) requires-3) (search needs) in
+    tie.close (part-4 (λ c. search needs) (λ c. search needs) requires-4 (λ c. search needs) returns)

@@ -7,6 +7,7 @@ use lib.IntN.{pos}
 use lib.ListN.{length, drop, length-set, length-drop, replicate}
 use lib.Seq.{getD-drop}
 use Rattle.math_integers.specs.Ranges.{back}
+use Rattle.math_integers.specs.Needs.{by-4}
 use Rattle.math_lists.specs.Fill.{filled, fill-next, fill-end}
 use Rattle.frame_received.proofs.pulses.Statement.{statement}
 use Rattle.frame_received.proofs.pulses.Tie as tie
@@ -38,17 +39,5 @@ returns c =
 
 pub pulses-spec : {M : Type 1} → statement M
 pulses-spec =
-    tie.close
-    (tie.spec
-    Inv-loop
-    μ-loop
-    (λ c. (search needs, refl, refl))
-    (λ c. search needs)
-    (λ c. search needs)
-    (λ c. search needs)
-    (λ c. search needs)
-    (λ c. search needs)
-    (λ c. search needs)
-    (λ c. search needs)
-    loop-again
-    returns)
+    let part-1 = by-4 (tie.spec Inv-loop μ-loop (λ c. (search needs, refl, refl))) (search needs) in
+    tie.close (part-1 (λ c. search needs) (λ c. search needs) (λ c. search needs) loop-again returns)

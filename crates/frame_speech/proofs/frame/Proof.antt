@@ -7,6 +7,7 @@ use native.Mathlib.Omega.{arith}
 use borrow.Author.Needs.{needs}
 use lib.IntN.{ℤ}
 use lib.ListN.{length, take, drop, length-append}
+use Rattle.math_integers.specs.Needs.{by-4}
 use Rattle.short_ratios.specs.Stretches.{rps}
 use Rattle.short_ratios.specs.Bounds.{rps-above}
 use Rattle.short_synthesis.specs.Speech.{spoken}
@@ -186,28 +187,11 @@ returns p =
 
 pub frame-spec : {M : Type 1} → statement M
 frame-spec =
+    let part-1 = by-4 tie.spec (search needs) in
+    let part-2 = by-4 (part-1 (λ c. search needs) (λ c. search needs) (λ c. search needs) requires) (search needs) in
+    let part-3 = by-4 (part-2 (λ c. search needs) (λ c. search needs) (λ c. search needs) requires-2) (search needs) in
     tie.close
-    (tie.spec
-    (λ c κs. search needs)
-    (λ c. search needs)
-    (λ c. search needs)
-    (λ c. search needs)
-    (λ c. search needs)
-    (λ c. search needs)
-    (λ c. search needs)
-    requires
-    (λ c κs. search needs)
-    (λ c. search needs)
-    (λ c. search needs)
-    (λ c. search needs)
-    (λ c. search needs)
-    (λ c. search needs)
-    (λ c. search needs)
-    requires-2
-    (λ c κs. search needs)
-    (λ c. search needs)
-    (λ c. search needs)
-    (λ c. search needs)
+    (part-3
     (λ c. search needs)
     (λ c. search needs)
     (λ c. search needs)

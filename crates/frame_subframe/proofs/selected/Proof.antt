@@ -11,6 +11,7 @@ use mir.Syntax.{w16}
 use borrow.Author.Needs.{needs}
 use Rattle.math_integers.specs.Halves.{mem}
 use Rattle.math_integers.specs.Ranges.{res}
+use Rattle.math_integers.specs.Needs.{by-4}
 use Rattle.standard.specs.Arithmetic.{peak}
 use Rattle.standard.specs.Rpe.{grid, Mc, xmaxc, amplitude, xMc}
 use Rattle.law_fields.specs.Amplitudes.{peak-in, xmaxc-fits}
@@ -61,14 +62,4 @@ returns c =
 
 pub selected-spec : {M : Type 1} → statement M
 selected-spec =
-    tie.close
-    (tie.spec
-    mc-requires
-    grid-requires
-    (λ c. search needs)
-    (λ c. search needs)
-    (λ c. search needs)
-    (λ c κs. search needs)
-    (λ c κs. search needs)
-    pulse-codes-requires
-    returns)
+    tie.close (by-4 (tie.spec mc-requires grid-requires) (search needs) (λ c κs. search needs) pulse-codes-requires returns)

@@ -8,6 +8,7 @@ use mir.Syntax.{w16}
 use mir.Val.{SFits}
 use borrow.Author.Needs.{needs}
 use Rattle.math_integers.specs.Ranges.{back}
+use Rattle.math_integers.specs.Needs.{by-4}
 use Rattle.math_lists.specs.Fill.{filled, fill-next, fill-end}
 use Rattle.standard.specs.Files.{file-bytes}
 use Rattle.io_files.specs.Words.{file-bytes-length, bytes-at}
@@ -49,18 +50,9 @@ returns c =
 
 pub to-bytes-spec : {M : Type 1} → statement M
 to-bytes-spec =
+    let part-1 = by-4 (tie.spec Inv-loop μ-loop (λ c. search needs) (λ c. search needs) (λ c. search needs) (λ c κs. tt)) (search needs) in
     tie.close
-    (tie.spec
-    Inv-loop
-    μ-loop
-    (λ c. search needs)
-    (λ c. search needs)
-    (λ c. search needs)
-    (λ c κs. tt)
-    (λ c. search needs)
-    (λ c. search needs)
-    (λ c. search needs)
-    (λ c. search needs)
+    (part-1
     (λ c κs. tt)
     (λ c. search needs)
     (λ c. search needs)

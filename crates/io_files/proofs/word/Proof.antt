@@ -9,6 +9,7 @@ use mir.Facts.{toZ-pos, sfits-toZ}
 use borrow.Author.Needs.{needs}
 use Rattle.math_integers.specs.Halves.{mem}
 use Rattle.math_integers.specs.Ranges.{back, wide}
+use Rattle.math_integers.specs.Needs.{by-4}
 use Rattle.io_files.specs.Words.{word-negative}
 use Rattle.io_files.proofs.word.Statement.{statement}
 use Rattle.io_files.proofs.word.Tie as tie
@@ -29,13 +30,5 @@ returns-2 c = ap (mem w16) (back (wide {v = w32} (fits c) tt)) ∙ (back (fits c
 
 pub word-spec : {M : Type 1} → statement M
 word-spec =
-    tie.close
-    (tie.spec
-    (λ c. search needs)
-    (λ c. search needs)
-    (λ c. search needs)
-    (λ c. search needs)
-    (λ c. wide (fits c) tt)
-    (λ c. rw (back (wide {v = w32} (fits c) tt)) (fits c))
-    (λ c. search needs)
-    returns-2)
+    let part-1 = by-4 tie.spec (search needs) in
+    tie.close (part-1 (λ c. wide (fits c) tt) (λ c. rw (back (wide {v = w32} (fits c) tt)) (fits c)) (λ c. search needs) returns-2)

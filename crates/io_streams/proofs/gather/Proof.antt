@@ -7,8 +7,8 @@ use native.Mathlib.Omega.{arith}
 use lib.ListN.{length, take}
 use lib.Seq.{length-take-le, take-append-le, take-take}
 use borrow.Author.Needs.{needs}
+use Rattle.math_integers.specs.Needs.{by-4}
 use Rattle.math_lists.specs.Parts.{put}
-use Rattle.io_streams.specs.Needs.{by-4}
 use Rattle.io_streams.proofs.gather.Statement.{statement}
 use Rattle.io_streams.proofs.gather.Tie as tie
 

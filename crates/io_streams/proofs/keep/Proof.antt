@@ -6,8 +6,8 @@ use native.Mathlib.Omega.{arith}
 use lib.ListN.{length, getD, drop, length-set, length-drop}
 use lib.Seq.{getD-drop}
 use borrow.Author.Needs.{needs}
+use Rattle.math_integers.specs.Needs.{by-4}
 use Rattle.math_lists.specs.Fill.{filled, fill-next, fill-read}
-use Rattle.io_streams.specs.Needs.{by-4}
 use Rattle.io_streams.proofs.keep.Statement.{statement}
 use Rattle.io_streams.proofs.keep.Tie as tie
 

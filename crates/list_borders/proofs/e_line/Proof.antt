@@ -3,6 +3,7 @@
 use Prim.Native.Nat.{_≤_}
 use native.Mathlib.Omega.{arith}
 use borrow.Author.Needs.{needs}
+use Rattle.math_integers.specs.Needs.{by-4}
 use Rattle.standard.specs.Listing.{text}
 use Rattle.list_text.specs.Written.{puts-then}
 use Rattle.list_borders.specs.Borders.{E-limit, E-end}
@@ -33,16 +34,5 @@ returns-2 c =
 
 pub e-line-spec : {M : Type 1} → statement M
 e-line-spec =
-    tie.close
-    (tie.spec
-    (λ c. search needs)
-    (λ c κs. search needs)
-    returns
-    (λ c. search needs)
-    (λ c κs. search needs)
-    (λ c κs. search needs)
-    (λ c κs. search needs)
-    (λ c κs. search needs)
-    (λ c. search needs)
-    (λ c κs. search needs)
-    returns-2)
+    let part-1 = by-4 (tie.spec (λ c. search needs) (λ c κs. search needs) returns) (search needs) in
+    tie.close (part-1 (λ c κs. search needs) (λ c. search needs) (λ c κs. search needs) returns-2)

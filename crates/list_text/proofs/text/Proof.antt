@@ -5,6 +5,7 @@ use mathlib.Core.List.{List}
 use native.Mathlib.Omega.{arith}
 use lib.ListN.{length}
 use borrow.Author.Needs.{needs}
+use Rattle.math_integers.specs.Needs.{by-4}
 use Rattle.math_lists.specs.Parts.{put}
 use Rattle.list_text.proofs.text.Statement.{statement}
 use Rattle.list_text.proofs.text.Tie as tie
@@ -19,12 +20,4 @@ returns c =
 
 pub text-spec : {M : Type 1} → statement M
 text-spec =
-    tie.close
-    (tie.spec
-    (λ c. search needs)
-    (λ c. search needs)
-    (λ c. search needs)
-    (λ c. search needs)
-    (λ c κs. search needs)
-    (λ c. search needs)
-    returns)
+    tie.close (by-4 tie.spec (search needs) (λ c κs. search needs) (λ c. search needs) returns)

@@ -5,6 +5,7 @@ use native.Mathlib.Nat.{sub-zero}
 use native.Mathlib.Omega.{arith}
 use lib.ListN.{length, take, replicate}
 use borrow.Author.Needs.{needs}
+use Rattle.math_integers.specs.Needs.{by-4}
 use Rattle.list_text.specs.Written.{puts-front, puts-length}
 use Rattle.list_frames.specs.Promise.{Lists, listed, state}
 use Rattle.io_streams.specs.Frames.{puts-all}
@@ -44,14 +45,4 @@ returns c =
 
 pub frame-spec : {M : Type 1} → statement M
 frame-spec =
-    tie.close
-    (tie.spec
-    (λ c. search needs)
-    (λ c κs. search needs)
-    (λ c κs. search needs)
-    (λ c. search needs)
-    (λ c. search needs)
-    part-text-end
-    (λ c κs. search needs)
-    (λ c. search needs)
-    returns)
+    tie.close (by-4 tie.spec (search needs) (λ c. search needs) part-text-end (λ c κs. search needs) (λ c. search needs) returns)

@@ -5,6 +5,7 @@ use mathlib.Core.Path.{_≡_}
 use native.Mathlib.Omega.{arith}
 use lib.ListN.{length}
 use borrow.Author.Needs.{needs}
+use Rattle.math_integers.specs.Needs.{by-8}
 use Rattle.list_frames.specs.Promise as promise
 use Rattle.list_frames.specs.Promise.{listed}
 use Rattle.io_streams.specs.Frames.{Through, through-none, through-next}
@@ -37,19 +38,4 @@ returns c =
 
 pub list-spec : {M : Type 1} → statement M
 list-spec =
-    tie.close
-    (tie.spec
-    Inv-loop
-    μ-loop
-    loop-holds
-    (λ c. search needs)
-    (λ c. search needs)
-    (λ c. search needs)
-    (λ c. search needs)
-    (λ c. search needs)
-    (λ c κs. search needs)
-    (λ c. search needs)
-    (λ c. search needs)
-    loop-again
-    (λ c. search needs)
-    returns)
+    tie.close (by-8 (tie.spec Inv-loop μ-loop loop-holds) (search needs) loop-again (λ c. search needs) returns)

@@ -5,6 +5,7 @@ use mathlib.Core.Path.{sym, ap, _∙_}
 use mathlib.Core.Bool.{true≢false}
 use native.Mathlib.Omega.{arith}
 use borrow.Author.Needs.{needs}
+use Rattle.math_integers.specs.Needs.{by-4, by-8}
 use Rattle.lister.specs.Turn.{front}
 use Rattle.lister.proofs.turn.Statement.{statement}
 use Rattle.lister.proofs.turn.Tie as tie
@@ -59,25 +60,6 @@ returns-3 c =
 
 pub turn-spec : {M : Type 1} → statement M
 turn-spec =
-    tie.close
-    (tie.spec
-    (λ c κs. search needs)
-    (λ c κs. search needs)
-    (λ c. search needs)
-    returns
-    (λ c κs. search needs)
-    (λ c κs. search needs)
-    (λ c κs. search needs)
-    (λ c. search needs)
-    returns-2
-    (λ c κs. search needs)
-    (λ c. search needs)
-    (λ c κs. search needs)
-    (λ c. search needs)
-    (λ c. search needs)
-    (λ c. search needs)
-    (λ c κs. search needs)
-    (λ c κs. search needs)
-    (λ c. search needs)
-    (λ c. search needs)
-    returns-3)
+    let part-1 = by-4 (tie.spec (λ c κs. search needs) (λ c κs. search needs) (λ c. search needs) returns) (search needs) in
+    let part-2 = by-8 (part-1 returns-2) (search needs) in
+    tie.close (part-2 (λ c. search needs) (λ c. search needs) returns-3)

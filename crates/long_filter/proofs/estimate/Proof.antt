@@ -9,6 +9,7 @@ use mir.Syntax.{w16}
 use mir.Val.{SFits}
 use borrow.Author.Needs.{needs, sfits-of}
 use Rattle.math_integers.specs.Ranges.{back as local, res}
+use Rattle.math_integers.specs.Needs.{by-8}
 use Rattle.math_lists.specs.Fill.{filled, fill-next, fill-end}
 use Rattle.math_lists.specs.Tab.{map-at}
 use Rattle.standard.specs.Arithmetic.{mult-r}
@@ -68,20 +69,4 @@ returns c =
 
 pub estimate-spec : {M : Type 1} → statement M
 estimate-spec =
-    tie.close
-    (tie.spec
-    Inv-loop
-    μ-loop
-    (λ c κs. search needs)
-    loop-holds
-    (λ c. search needs)
-    (λ c. search needs)
-    (λ c. search needs)
-    (λ c. search needs)
-    (λ c κs. search needs)
-    (λ c. search needs)
-    (λ c. search needs)
-    (λ c. search needs)
-    (λ c. search needs)
-    loop-again
-    returns)
+    tie.close (by-8 (tie.spec Inv-loop μ-loop (λ c κs. search needs) loop-holds) (search needs) (λ c. search needs) loop-again returns)

@@ -8,6 +8,7 @@ use mir.Syntax.{w16}
 use mir.Val.{SFits}
 use borrow.Author.Needs.{needs}
 use Rattle.math_integers.specs.Ranges.{back, res}
+use Rattle.math_integers.specs.Needs.{by-8}
 use Rattle.math_lists.specs.Fill.{filled, fill-next, fill-end}
 use Rattle.math_lists.specs.Tab.{zip-at}
 use Rattle.standard.specs.Arithmetic.{sub}
@@ -59,19 +60,4 @@ returns c =
 
 pub residual-spec : {M : Type 1} → statement M
 residual-spec =
-    tie.close
-    (tie.spec
-    Inv-loop
-    μ-loop
-    loop-holds
-    (λ c. search needs)
-    (λ c. search needs)
-    (λ c. search needs)
-    (λ c. search needs)
-    (λ c κs. search needs)
-    (λ c. search needs)
-    (λ c. search needs)
-    (λ c. search needs)
-    (λ c. search needs)
-    loop-again
-    returns)
+    tie.close (by-8 (tie.spec Inv-loop μ-loop loop-holds) (search needs) (λ c. search needs) loop-again returns)

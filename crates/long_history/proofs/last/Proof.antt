@@ -6,6 +6,7 @@ use borrow.Author.Needs.{needs, sfits-of}
 use lib.IntN.{pos}
 use lib.ListN.{length, length-set}
 use Rattle.math_integers.specs.Ranges.{back}
+use Rattle.math_integers.specs.Needs.{by-4}
 use Rattle.math_lists.specs.Fill.{filled, fill-next, fill-end}
 use Rattle.long_history.proofs.last.Statement.{statement}
 use Rattle.long_history.proofs.last.Tie as tie
@@ -30,16 +31,5 @@ returns c = let t = c .before in fill-end (t .before .args .dp .now) _ (t .loop 
 
 pub last-spec : {M : Type 1} → statement M
 last-spec =
-    tie.close
-    (tie.spec
-    Inv-loop
-    μ-loop
-    (λ c. (search needs, refl, refl))
-    (λ c. search needs)
-    (λ c. search needs)
-    (λ c. search needs)
-    (λ c. search needs)
-    (λ c. search needs)
-    (λ c. search needs)
-    loop-again
-    returns)
+    let part-1 = by-4 (tie.spec Inv-loop μ-loop (λ c. (search needs, refl, refl))) (search needs) in
+    tie.close (part-1 (λ c. search needs) (λ c. search needs) loop-again returns)

@@ -7,6 +7,7 @@ use lib.IntN.{pos}
 use lib.ListN.{length, length-set, replicate}
 use lib.Seq.{take-all}
 use Rattle.math_integers.specs.Ranges.{back}
+use Rattle.math_integers.specs.Needs.{by-4}
 use Rattle.math_lists.specs.Fill.{filled, fill-next}
 use Rattle.long_history.proofs.remembered.Statement.{statement}
 use Rattle.long_history.proofs.remembered.Tie as tie
@@ -38,16 +39,5 @@ returns c =
 
 pub remembered-spec : {M : Type 1} → statement M
 remembered-spec =
-    tie.close
-    (tie.spec
-    Inv-loop
-    μ-loop
-    (λ c. (search needs, refl, refl))
-    (λ c. search needs)
-    (λ c. search needs)
-    (λ c. search needs)
-    (λ c. search needs)
-    (λ c. search needs)
-    (λ c. search needs)
-    loop-again
-    returns)
+    let part-1 = by-4 (tie.spec Inv-loop μ-loop (λ c. (search needs, refl, refl))) (search needs) in
+    tie.close (part-1 (λ c. search needs) (λ c. search needs) loop-again returns)

@@ -6,6 +6,7 @@ use mir.Syntax.{w16}
 use borrow.Author.Needs.{needs}
 use Rattle.math_integers.specs.Halves.{zar, mem}
 use Rattle.math_integers.specs.Ranges.{back, res}
+use Rattle.math_integers.specs.Needs.{by-4}
 use Rattle.math_lists.specs.First.{first}
 use Rattle.standard.specs.Arithmetic.{mult}
 use Rattle.standard.specs.LongTerm.{gain-level}
@@ -85,15 +86,4 @@ returns-4 c =
 
 pub level-spec : {M : Type 1} → statement M
 level-spec =
-    tie.close
-    (tie.spec
-    (λ c κs. search needs)
-    (λ c κs. search needs)
-    (λ c κs. search needs)
-    (λ c κs. search needs)
-    (λ c κs. search needs)
-    (λ c κs. search needs)
-    returns
-    returns-2
-    returns-3
-    returns-4)
+    tie.close (by-4 tie.spec (search needs) (λ c κs. search needs) (λ c κs. search needs) returns returns-2 returns-3 returns-4)

@@ -3,6 +3,7 @@ use mathlib.Core.Path.{refl, ap, _∙_}
 use native.Mathlib.Omega.{arith}
 use borrow.Author.Needs.{needs}
 use Rattle.math_integers.specs.Ranges.{res}
+use Rattle.math_integers.specs.Needs.{by-4}
 use Rattle.standard.specs.Arithmetic.{L-squares}
 use Rattle.standard.specs.LongTerm.{L-power}
 use Rattle.long_search.specs.Search.{part-is}
@@ -18,13 +19,4 @@ returns c =
 
 pub power-spec : {M : Type 1} → statement M
 power-spec =
-    tie.close
-    (tie.spec
-    (λ c. search needs)
-    (λ c. search needs)
-    (λ c. search needs)
-    (λ c. search needs)
-    (λ c. search needs)
-    (λ c. search needs)
-    (λ c κs. search needs)
-    returns)
+    tie.close (by-4 tie.spec (search needs) (λ c. search needs) (λ c. search needs) (λ c κs. search needs) returns)

@@ -11,6 +11,7 @@ use mir.Val.{toZ}
 use borrow.Author.Needs.{needs}
 use Rattle.math_integers.specs.Halves.{mem}
 use Rattle.math_integers.specs.Ranges.{back, res}
+use Rattle.math_integers.specs.Needs.{by-4}
 use Rattle.math_lists.specs.Every.{every}
 use Rattle.standard.specs.Arithmetic.{L-sum}
 use Rattle.op_sums.specs.Room.{at-most}
@@ -103,15 +104,9 @@ returns c =
 
 pub at-distance-spec : {M : Type 1} → statement M
 at-distance-spec =
+    let part-1 = by-4 (tie.spec Inv-loop μ-loop loop-holds) (search needs) in
     tie.close
-    (tie.spec
-    Inv-loop
-    μ-loop
-    loop-holds
-    (λ c. search needs)
-    (λ c. search needs)
-    (λ c. search needs)
-    (λ c. search needs)
+    (part-1
     (λ c. search needs)
     (λ c. search needs)
     (λ c. omega (arith, c .before .before .pre .0))

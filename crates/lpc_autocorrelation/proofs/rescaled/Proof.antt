@@ -10,6 +10,7 @@ use mir.Val.{SFits, toZ}
 use borrow.Author.Needs.{needs, sfits-of}
 use Rattle.math_integers.specs.Halves.{mem}
 use Rattle.math_integers.specs.Ranges.{back, res}
+use Rattle.math_integers.specs.Needs.{by-4}
 use Rattle.math_lists.specs.Fill.{filled, fill-next, fill-read, fill-end}
 use Rattle.math_lists.specs.Tab.{map-at}
 use Rattle.standard.specs.Arithmetic.{shl}
@@ -62,19 +63,5 @@ returns-2 c = rw (rw (back (c .before .fits .scale)) at (c .if1 .left))
 
 pub rescaled-spec : {M : Type 1} → statement M
 rescaled-spec =
-    tie.close
-    (tie.spec
-    Inv-loop
-    μ-loop
-    loop-holds
-    (λ c. search needs)
-    (λ c. search needs)
-    (λ c κs. search needs)
-    (λ c. search needs)
-    (λ c. search needs)
-    (λ c. search needs)
-    loop-less
-    loop-again
-    (λ c. search needs)
-    returns
-    returns-2)
+    let part-1 = by-4 (tie.spec Inv-loop μ-loop loop-holds) (search needs) in
+    tie.close (part-1 (λ c. search needs) (λ c. search needs) loop-less loop-again (λ c. search needs) returns returns-2)

@@ -3,6 +3,7 @@ use mathlib.Core.Path.{_∙_}
 use borrow.Author.Needs.{needs}
 use mir.Syntax.{w16}
 use Rattle.math_integers.specs.Ranges.{back, res}
+use Rattle.math_integers.specs.Needs.{by-8}
 use Rattle.law_arithmetic.specs.Shift.{down-bits}
 use Rattle.standard.specs.Lpc.{LARc}
 use Rattle.lpc_logarea.proofs.larc.Statement.{statement}
@@ -27,15 +28,4 @@ returns c =
 
 pub larc-spec : {M : Type 1} → statement M
 larc-spec =
-    tie.close
-    (tie.spec
-    (λ c κs. search needs)
-    (λ c κs. search needs)
-    (λ c κs. search needs)
-    (λ c κs. search needs)
-    (λ c κs. search needs)
-    (λ c κs. search needs)
-    (λ c κs. search needs)
-    (λ c κs. search needs)
-    (λ c κs. search needs)
-    returns)
+    tie.close (by-8 tie.spec (search needs) (λ c κs. search needs) returns)

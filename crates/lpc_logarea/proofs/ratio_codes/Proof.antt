@@ -8,6 +8,7 @@ use lib.ListN.{replicate}
 use mir.Syntax.{w16}
 use mir.Val.{SFits}
 use Rattle.math_integers.specs.Ranges.{back, res}
+use Rattle.math_integers.specs.Needs.{by-8}
 use Rattle.math_lists.specs.Fill.{filled, fill-next, fill-end}
 use Rattle.math_lists.specs.Tab.{tab-at-zero}
 use Rattle.standard.specs.Tables.{_at_}
@@ -45,18 +46,4 @@ returns c =
 
 pub ratio-codes-spec : {M : Type 1} → statement M
 ratio-codes-spec =
-    tie.close
-    (tie.spec
-    Inv-loop
-    μ-loop
-    (λ c. (refl, search needs))
-    (λ c. search needs)
-    (λ c. search needs)
-    (λ c κs. search needs)
-    (λ c κs. search needs)
-    (λ c. search needs)
-    (λ c. search needs)
-    (λ c. search needs)
-    (λ c. search needs)
-    loop-again
-    returns)
+    tie.close (by-8 (tie.spec Inv-loop μ-loop (λ c. (refl, search needs))) (search needs) loop-again returns)

@@ -7,6 +7,7 @@ use borrow.Author.Needs.{needs, sfits-of}
 use lib.IntN.{ℤ}
 use lib.ListN.{set}
 use Rattle.math_integers.specs.Ranges.{back}
+use Rattle.math_integers.specs.Needs.{by-4}
 use Rattle.math_lists.specs.Steps.{steps, steps-next, steps-end}
 use Rattle.standard.specs.Tables.{_at_}
 use Rattle.law_loops.specs.Recursion.{K-start}
@@ -41,17 +42,5 @@ returns c =
 
 pub k-start-spec : {M : Type 1} → statement M
 k-start-spec =
-    tie.close
-    (tie.spec
-    Inv-loop
-    μ-loop
-    loop-holds
-    (λ c. search needs)
-    (λ c. search needs)
-    (λ c. search needs)
-    (λ c. search needs)
-    (λ c. search needs)
-    (λ c. search needs)
-    (λ c. search needs)
-    loop-again
-    returns)
+    let part-1 = by-4 (tie.spec Inv-loop μ-loop loop-holds) (search needs) in
+    tie.close (part-1 (λ c. search needs) (λ c. search needs) (λ c. search needs) loop-again returns)

@@ -14,6 +14,7 @@ use mir.Syntax.{w16, w32}
 use mir.Val.{SFits, ofZ}
 use Rattle.math_integers.specs.Halves.{mem, zar, either, abs-is}
 use Rattle.math_integers.specs.Ranges.{back, res, bits-eq}
+use Rattle.math_integers.specs.Needs.{by-4, by-8}
 use Rattle.standard.specs.Arithmetic.{is-zero, abs}
 use Rattle.standard.specs.Tables.{_at_}
 use Rattle.standard.specs.Lpc.{ACF, reflection, schur}
@@ -134,28 +135,7 @@ returns-3 c =
 
 pub reflection-coefficients-spec : {M : Type 1} → statement M
 reflection-coefficients-spec =
-    tie.close
-    (tie.spec
-    Inv-loop
-    μ-loop
-    (λ c. search needs)
-    returns
-    (λ c κs. above c)
-    (λ c κs. search needs)
-    loop-holds
-    (λ c. search needs)
-    (λ c. search needs)
-    (λ c κs. search needs)
-    (λ c. search needs)
-    returns-2
-    (λ c. search needs)
-    (λ c. search needs)
-    (λ c κs. search needs)
-    (λ c. search needs)
-    (λ c. search needs)
-    (λ c. search needs)
-    (λ c κs. search needs)
-    (λ c. search needs)
-    (λ c. search needs)
-    loop-again
-    returns-3)
+    let start = tie.spec Inv-loop μ-loop (λ c. search needs) returns (λ c κs. above c) (λ c κs. search needs) loop-holds in
+    let part-1 = by-4 start (search needs) in
+    let part-2 = by-8 (part-1 returns-2) (search needs) in
+    tie.close (part-2 (λ c. search needs) loop-again returns-3)

@@ -11,6 +11,7 @@ use mir.Syntax.{w16}
 use mir.Val.{SFits, toZ}
 use Rattle.math_integers.specs.Halves.{mem}
 use Rattle.math_integers.specs.Ranges.{back, res}
+use Rattle.math_integers.specs.Needs.{by-4, by-12}
 use Rattle.math_lists.specs.Steps.{steps, steps-next, steps-end}
 use Rattle.standard.specs.Arithmetic.{add, mult-r}
 use Rattle.standard.specs.Tables.{_at_}
@@ -76,33 +77,7 @@ returns c =
 
 pub step-spec : {M : Type 1} → statement M
 step-spec =
-    tie.close
-    (tie.spec
-    Inv-loop
-    μ-loop
-    (λ c. search needs)
-    (λ c. search needs)
-    (λ c κs. search needs)
-    (λ c κs. search needs)
-    (λ c. search needs)
-    (λ c. search needs)
-    (λ c. (search needs, refl))
-    (λ c. search needs)
-    (λ c. search needs)
-    (λ c. search needs)
-    (λ c. search needs)
-    (λ c. search needs)
-    (λ c. search needs)
-    (λ c κs. search needs)
-    (λ c κs. search needs)
-    (λ c. search needs)
-    (λ c. search needs)
-    (λ c κs. search needs)
-    (λ c κs. search needs)
-    (λ c. search needs)
-    (λ c. search needs)
-    (λ c. search needs)
-    (λ c. search needs)
-    (λ c. search needs)
-    loop-again
-    returns)
+    let part-1 = by-4 (tie.spec Inv-loop μ-loop) (search needs) in
+    let part-2 = by-12 (part-1 (λ c. search needs) (λ c. search needs) (λ c. (search needs, refl))) (search needs) in
+    let part-3 = by-4 part-2 (search needs) in
+    tie.close (part-3 (λ c. search needs) loop-again returns)

@@ -8,6 +8,7 @@ use lib.ListN.{length, length-set}
 use mir.Syntax.{w16}
 use mir.Val.{SFits, toZ}
 use Rattle.math_integers.specs.Ranges.{back, res}
+use Rattle.math_integers.specs.Needs.{by-8}
 use Rattle.math_lists.specs.Scan.{Along, along-start, along-next, along-end}
 use Rattle.standard.specs.Tables.{_at_}
 use Rattle.standard.specs.Preprocessing.{emphasis}
@@ -45,19 +46,4 @@ returns c =
 
 pub emphasis-spec : {M : Type 1} → statement M
 emphasis-spec =
-    tie.close
-    (tie.spec
-    Inv-loop
-    μ-loop
-    loop-holds
-    (λ c. search needs)
-    (λ c. search needs)
-    (λ c κs. search needs)
-    (λ c κs. search needs)
-    (λ c. search needs)
-    (λ c. search needs)
-    (λ c. search needs)
-    (λ c. search needs)
-    loop-again
-    (λ c. search needs)
-    returns)
+    tie.close (by-8 (tie.spec Inv-loop μ-loop loop-holds) (search needs) loop-again (λ c. search needs) returns)

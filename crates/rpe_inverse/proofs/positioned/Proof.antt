@@ -6,6 +6,7 @@ use borrow.Author.Needs.{needs, sfits-of}
 use lib.IntN.{pos}
 use lib.ListN.{replicate}
 use Rattle.math_integers.specs.Ranges.{back}
+use Rattle.math_integers.specs.Needs.{by-8}
 use Rattle.math_lists.specs.Steps.{steps, steps-next, steps-end}
 use Rattle.law_loops.specs.Positions.{ep-zero, ep-turn, ep-loops}
 use Rattle.rpe_inverse.proofs.positioned.Statement.{statement}
@@ -40,18 +41,4 @@ returns c =
 
 pub positioned-spec : {M : Type 1} → statement M
 positioned-spec =
-    tie.close
-    (tie.spec
-    Inv-loop
-    μ-loop
-    (λ c. (search needs, refl))
-    (λ c. search needs)
-    (λ c. search needs)
-    (λ c. search needs)
-    (λ c. search needs)
-    (λ c. search needs)
-    (λ c. search needs)
-    (λ c. search needs)
-    (λ c. search needs)
-    loop-again
-    returns)
+    tie.close (by-8 (tie.spec Inv-loop μ-loop (λ c. (search needs, refl))) (search needs) loop-again returns)

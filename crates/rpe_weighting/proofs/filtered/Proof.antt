@@ -12,6 +12,7 @@ use borrow.Author.Needs.{needs, sfits-of}
 use Rattle.math_integers.specs.Halves.{P, N, zar, know, mem, apart, abs-is}
 use Rattle.math_integers.specs.Sums.{add-is, mul-is}
 use Rattle.math_integers.specs.Ranges.{back, res, wide}
+use Rattle.math_integers.specs.Needs.{by-4}
 use Rattle.standard.specs.Arithmetic.{_>>_, clip}
 use Rattle.standard.specs.Tables.{_at_, neg}
 use Rattle.law_arithmetic.specs.Shift.{down-bits}
@@ -176,19 +177,10 @@ returns c =
 
 pub filtered-spec : {M : Type 1} → statement M
 filtered-spec =
+    let part-1 = by-4 tie.spec (search needs) in
+    let part-2 = by-4 (part-1 (λ c. search needs) (λ c κs. search needs) add-outer) (search needs) in
     tie.close
-    (tie.spec
-    (λ c. search needs)
-    (λ c. search needs)
-    (λ c κs. search needs)
-    (λ c. search needs)
-    (λ c. search needs)
-    (λ c κs. search needs)
-    add-outer
-    (λ c. search needs)
-    (λ c. search needs)
-    (λ c κs. search needs)
-    (λ c. search needs)
+    (part-2
     (λ c. search needs)
     (λ c κs. search needs)
     add-inner

@@ -8,6 +8,7 @@ use mir.Syntax.{w16}
 use mir.Val.{SFits}
 use borrow.Author.Needs.{needs, sfits-of}
 use Rattle.math_integers.specs.Ranges.{back}
+use Rattle.math_integers.specs.Needs.{by-8}
 use Rattle.math_lists.specs.Fill.{filled, fill-next, fill-end}
 use Rattle.standard.specs.Tables.{_at_}
 use Rattle.standard.specs.Rpe.{grid}
@@ -43,18 +44,4 @@ returns c =
 
 pub grid-spec : {M : Type 1} → statement M
 grid-spec =
-    tie.close
-    (tie.spec
-    Inv-loop
-    μ-loop
-    (λ c. (search needs, refl))
-    (λ c. search needs)
-    (λ c. search needs)
-    (λ c. search needs)
-    (λ c. search needs)
-    (λ c. search needs)
-    (λ c. search needs)
-    (λ c. search needs)
-    (λ c. search needs)
-    loop-again
-    returns)
+    tie.close (by-8 (tie.spec Inv-loop μ-loop (λ c. (search needs, refl))) (search needs) loop-again returns)

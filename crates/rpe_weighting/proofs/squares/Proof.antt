@@ -11,6 +11,7 @@ use borrow.Author.Count.{below-more}
 use borrow.Author.Needs.{needs, sfits-of}
 use Rattle.math_integers.specs.Halves.{mem}
 use Rattle.math_integers.specs.Ranges.{back, wide, shr-fits, product-fits}
+use Rattle.math_integers.specs.Needs.{by-4}
 use Rattle.math_lists.specs.Fill.{filled, fill-next, fill-end}
 use Rattle.math_lists.specs.Tab.{map-at}
 use Rattle.standard.specs.Arithmetic.{_>>_}
@@ -90,17 +91,4 @@ returns c =
 pub squares-spec : {M : Type 1} → statement M
 squares-spec =
     tie.close
-    (tie.spec
-    Inv-loop
-    μ-loop
-    loop-holds
-    (λ c. search needs)
-    (λ c. search needs)
-    cast-t
-    mul-q
-    (λ c. search needs)
-    (λ c. search needs)
-    (λ c. search needs)
-    (λ c. search needs)
-    loop-again
-    returns)
+    (by-4 (tie.spec Inv-loop μ-loop loop-holds (λ c. search needs) (λ c. search needs) cast-t mul-q) (search needs) loop-again returns)

@@ -8,6 +8,7 @@ use mir.Syntax.{w16}
 use mir.Val.{SFits}
 use borrow.Author.Needs.{needs}
 use Rattle.math_integers.specs.Ranges.{back}
+use Rattle.math_integers.specs.Needs.{by-4}
 use Rattle.math_lists.specs.Fill.{filled, fill-next}
 use Rattle.standard.specs.Tables.{_at_}
 use Rattle.rpe_weighting.specs.Filter.{around, around-length, around-at, around-end}
@@ -47,17 +48,5 @@ returns c =
 
 pub surrounded-spec : {M : Type 1} → statement M
 surrounded-spec =
-    tie.close
-    (tie.spec
-    Inv-loop
-    μ-loop
-    loop-holds
-    (λ c. search needs)
-    (λ c. search needs)
-    (λ c. search needs)
-    (λ c. search needs)
-    (λ c. search needs)
-    (λ c. search needs)
-    (λ c. search needs)
-    loop-again
-    returns)
+    let part-1 = by-4 (tie.spec Inv-loop μ-loop loop-holds) (search needs) in
+    tie.close (part-1 (λ c. search needs) (λ c. search needs) (λ c. search needs) loop-again returns)

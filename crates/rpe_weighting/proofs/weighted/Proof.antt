@@ -7,6 +7,7 @@ use lib.IntN.{ℤ, pos}
 use lib.ListN.{length, drop, replicate, length-set, length-take, length-drop}
 use borrow.Author.Needs.{needs}
 use Rattle.math_integers.specs.Ranges.{res}
+use Rattle.math_integers.specs.Needs.{by-4}
 use Rattle.math_lists.specs.Tab.{tab, tab-length, tab-at-zero}
 use Rattle.math_lists.specs.Fill.{filled, fill-next, fill-end}
 use Rattle.standard.specs.Rpe.{filtered, weighted}
@@ -63,21 +64,6 @@ part-filtered-end c = search needs
 
 pub weighted-spec : {M : Type 1} → statement M
 weighted-spec =
-    tie.close
-    (tie.spec
-    Inv-loop
-    μ-loop
-    (λ c κs. search needs)
-    loop-holds
-    (λ c. search needs)
-    (λ c. search needs)
-    (λ c. search needs)
-    (λ c. search needs)
-    part-filtered-end
-    filtered-requires
-    (λ c. search needs)
-    (λ c. search needs)
-    (λ c. search needs)
-    (λ c. search needs)
-    loop-again
-    returns)
+    let part-1 = by-4 (tie.spec Inv-loop μ-loop (λ c κs. search needs) loop-holds) (search needs) in
+    let part-2 = by-4 (part-1 part-filtered-end filtered-requires) (search needs) in
+    tie.close (part-2 loop-again returns)

@@ -9,6 +9,7 @@ use lib.IntN.{pos}
 use lib.ListN.{length, replicate, length-set}
 use lib.Seq.{paste, paste-suc, take-all}
 use Rattle.math_integers.specs.Ranges.{back}
+use Rattle.math_integers.specs.Needs.{by-4}
 use Rattle.short_analysis.proofs.after_cell.Statement.{statement}
 use Rattle.short_analysis.proofs.after_cell.Tie as tie
 
@@ -39,17 +40,5 @@ returns c =
 
 pub after-cell-spec : {M : Type 1} → statement M
 after-cell-spec =
-    tie.close
-    (tie.spec
-    Inv-loop
-    μ-loop
-    (λ c. (search needs, refl, refl))
-    (λ c. search needs)
-    (λ c. search needs)
-    (λ c. search needs)
-    (λ c. search needs)
-    (λ c. search needs)
-    (λ c. search needs)
-    (λ c. search needs)
-    loop-again
-    returns)
+    let part-1 = by-4 (tie.spec Inv-loop μ-loop (λ c. (search needs, refl, refl))) (search needs) in
+    tie.close (part-1 (λ c. search needs) (λ c. search needs) (λ c. search needs) loop-again returns)

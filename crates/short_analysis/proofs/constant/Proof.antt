@@ -9,6 +9,7 @@ use mir.Syntax.{w16}
 use mir.Val.{toZ}
 use Rattle.math_integers.specs.Halves.{mem}
 use Rattle.math_integers.specs.Ranges.{back}
+use Rattle.math_integers.specs.Needs.{by-4}
 use Rattle.math_lists.specs.Fill.{filled, fill-next, fill-end}
 use Rattle.short_analysis.proofs.constant.Statement.{statement}
 use Rattle.short_analysis.proofs.constant.Tie as tie
@@ -46,14 +47,4 @@ returns c =
 pub constant-spec : {M : Type 1} → statement M
 constant-spec =
     tie.close
-    (tie.spec
-    Inv-loop
-    μ-loop
-    (λ c. (search needs, refl, refl))
-    (λ c. search needs)
-    (λ c. search needs)
-    (λ c. search needs)
-    (λ c. search needs)
-    loop-again
-    (λ c. c .before .loop .inv .1)
-    returns)
+    (by-4 (tie.spec Inv-loop μ-loop (λ c. (search needs, refl, refl))) (search needs) loop-again (λ c. c .before .loop .inv .1) returns)

@@ -4,6 +4,7 @@ use mathlib.Core.List.{List}
 use borrow.Author.Needs.{needs, sfits-of}
 use lib.IntN.{ℤ}
 use Rattle.math_integers.specs.Ranges.{back}
+use Rattle.math_integers.specs.Needs.{by-8}
 use Rattle.short_analysis.specs.Sections.{spread}
 use Rattle.short_analysis.proofs.own.Statement.{statement}
 use Rattle.short_analysis.proofs.own.Tie as tie
@@ -22,16 +23,4 @@ returns c =
 
 pub own-spec : {M : Type 1} → statement M
 own-spec =
-    tie.close
-    (tie.spec
-    (λ c. search needs)
-    (λ c. search needs)
-    (λ c. search needs)
-    (λ c. search needs)
-    (λ c. search needs)
-    (λ c. search needs)
-    (λ c. search needs)
-    (λ c. search needs)
-    (λ c κs. search needs)
-    (λ c. search needs)
-    returns)
+    tie.close (by-8 tie.spec (search needs) (λ c κs. search needs) (λ c. search needs) returns)

@@ -6,6 +6,7 @@ use borrow.Author.Needs.{needs}
 use lib.IntN.{ℤ}
 use lib.ListN.{length, take, drop, replicate}
 use Rattle.math_integers.specs.Ranges.{back}
+use Rattle.math_integers.specs.Needs.{by-4, by-12}
 use Rattle.math_lists.specs.Parts.{put}
 use Rattle.short_analysis.specs.Sections.{spread-parts}
 use Rattle.short_analysis.proofs.spread.Statement.{statement}
@@ -37,23 +38,4 @@ returns c =
 
 pub spread-spec : {M : Type 1} → statement M
 spread-spec =
-    tie.close
-    (tie.spec
-    (λ c. search needs)
-    (λ c. search needs)
-    (λ c. search needs)
-    (λ c κs. search needs)
-    (λ c. search needs)
-    (λ c. search needs)
-    (λ c. search needs)
-    (λ c κs. search needs)
-    (λ c. search needs)
-    (λ c. search needs)
-    (λ c. search needs)
-    (λ c κs. search needs)
-    (λ c. search needs)
-    (λ c. search needs)
-    (λ c. search needs)
-    (λ c κs. search needs)
-    (λ c. search needs)
-    returns)
+    tie.close (by-4 (by-12 tie.spec (search needs)) (search needs) (λ c. search needs) returns)

@@ -8,6 +8,7 @@ use lib.ListN.{length, replicate}
 use mir.Syntax.{w16}
 use mir.Val.{SFits}
 use Rattle.math_integers.specs.Ranges.{back, res}
+use Rattle.math_integers.specs.Needs.{by-8}
 use Rattle.math_lists.specs.Fill.{filled, fill-next, fill-end}
 use Rattle.standard.specs.Tables.{_at_}
 use Rattle.short_ratios.specs.Stretches.{rps, rps-length, rps-at}
@@ -49,19 +50,4 @@ returns c =
 pub coefficients-spec : {M : Type 1} → statement M
 coefficients-spec =
     tie.close
-    (tie.spec
-    Inv-loop
-    μ-loop
-    (λ c. (refl, search needs))
-    (λ c. search needs)
-    (λ c. search needs)
-    (λ c. search needs)
-    (λ c. search needs)
-    (λ c κs. search needs)
-    (λ c κs. search needs)
-    (λ c. search needs)
-    (λ c. search needs)
-    (λ c. search needs)
-    (λ c. search needs)
-    loop-again
-    returns)
+    (by-8 (tie.spec Inv-loop μ-loop (λ c. (refl, search needs))) (search needs) (λ c. search needs) (λ c. search needs) loop-again returns)

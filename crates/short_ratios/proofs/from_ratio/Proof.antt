@@ -3,6 +3,7 @@ use mathlib.Core.Path.{_∙_}
 use mir.Syntax.{w16}
 use borrow.Author.Needs.{needs}
 use Rattle.math_integers.specs.Ranges.{back, res}
+use Rattle.math_integers.specs.Needs.{by-4}
 use Rattle.law_arithmetic.specs.Shift.{down-bits}
 use Rattle.short_ratios.specs.Least.{least-is}
 use Rattle.short_ratios.proofs.from_ratio.Statement.{statement}
@@ -22,11 +23,4 @@ returns c =
 
 pub from-ratio-spec : {M : Type 1} → statement M
 from-ratio-spec =
-    tie.close
-    (tie.spec
-    (λ c κs. search needs)
-    (λ c κs. search needs)
-    (λ c κs. search needs)
-    (λ c κs. search needs)
-    (λ c κs. search needs)
-    returns)
+    tie.close (by-4 tie.spec (search needs) (λ c κs. search needs) returns)

@@ -4,6 +4,7 @@ use native.Mathlib.Omega.{arith}
 use borrow.Author.Needs.{needs}
 use mir.Syntax.{w16}
 use Rattle.math_integers.specs.Ranges.{back, res}
+use Rattle.math_integers.specs.Needs.{by-4}
 use Rattle.law_arithmetic.specs.Shift.{down-bits}
 use Rattle.standard.specs.ShortTerm.{stretches}
 use Rattle.short_ratios.specs.Stretches.{LARp, LARp-last}
@@ -42,14 +43,4 @@ returns-4 c =
 
 pub larp-spec : {M : Type 1} → statement M
 larp-spec =
-    tie.close
-    (tie.spec
-    (λ c κs. search needs)
-    (λ c κs. search needs)
-    (λ c κs. search needs)
-    (λ c κs. search needs)
-    (λ c κs. search needs)
-    returns
-    returns-2
-    returns-3
-    returns-4)
+    tie.close (by-4 tie.spec (search needs) (λ c κs. search needs) returns returns-2 returns-3 returns-4)

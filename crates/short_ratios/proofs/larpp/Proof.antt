@@ -2,6 +2,7 @@
 use borrow.Author.Needs.{needs}
 use mir.Syntax.{w16}
 use Rattle.math_integers.specs.Ranges.{back, res}
+use Rattle.math_integers.specs.Needs.{by-4}
 use Rattle.law_arithmetic.specs.Shift.{up-bits}
 use Rattle.standard.specs.ShortTerm.{LARpp}
 use Rattle.short_ratios.proofs.larpp.Statement.{statement}
@@ -22,13 +23,4 @@ returns c =
 
 pub larpp-spec : {M : Type 1} → statement M
 larpp-spec =
-    tie.close
-    (tie.spec
-    (λ c κs. search needs)
-    (λ c κs. search needs)
-    (λ c κs. search needs)
-    (λ c κs. search needs)
-    (λ c κs. search needs)
-    (λ c κs. search needs)
-    (λ c κs. search needs)
-    returns)
+    tie.close (by-4 tie.spec (search needs) (λ c κs. search needs) (λ c κs. search needs) (λ c κs. search needs) returns)

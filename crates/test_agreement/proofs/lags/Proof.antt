@@ -12,6 +12,7 @@ use mir.Val.{SFits}
 use borrow.Author.Needs.{needs, sfits-of}
 use borrow.Author.Tests.{not-true, not-false}
 use Rattle.math_integers.specs.Ranges.{back}
+use Rattle.math_integers.specs.Needs.{by-4}
 use Rattle.math_lists.specs.Every.{every, every-next, every-end}
 use Rattle.math_lists.specs.Tab.{tab}
 use Rattle.math_lists.specs.For.{tab-each}
@@ -64,18 +65,5 @@ returns-2 c =
 
 pub lags-spec : {M : Type 1} → statement M
 lags-spec =
-    tie.close
-    (tie.spec
-    Inv-loop
-    μ-loop
-    (λ c. (search needs, refl))
-    (λ c. search needs)
-    (λ c. search needs)
-    (λ c. search needs)
-    (λ c. search needs)
-    (λ c κs. search needs)
-    returns
-    (λ c. search needs)
-    (λ c. search needs)
-    loop-again
-    returns-2)
+    let part-1 = by-4 (tie.spec Inv-loop μ-loop (λ c. (search needs, refl))) (search needs) in
+    tie.close (part-1 (λ c κs. search needs) returns (λ c. search needs) (λ c. search needs) loop-again returns-2)

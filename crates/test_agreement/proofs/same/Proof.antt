@@ -13,6 +13,7 @@ use mir.Syntax.{w16}
 use mir.Val.{SFits, ofZ}
 use borrow.Author.Needs.{needs}
 use Rattle.math_integers.specs.Ranges.{bits-eq}
+use Rattle.math_integers.specs.Needs.{by-4}
 use Rattle.test_agreement.proofs.same.Statement.{statement}
 use Rattle.test_agreement.proofs.same.Tie as tie
 
@@ -57,18 +58,5 @@ returns-3 c =
 
 pub same-spec : {M : Type 1} → statement M
 same-spec =
-    tie.close
-    (tie.spec
-    Inv-loop
-    μ-loop
-    returns
-    loop-holds
-    (λ c. search needs)
-    (λ c. search needs)
-    (λ c. search needs)
-    (λ c. search needs)
-    returns-2
-    (λ c. search needs)
-    (λ c. search needs)
-    loop-again
-    returns-3)
+    let part-1 = by-4 (tie.spec Inv-loop μ-loop returns loop-holds) (search needs) in
+    tie.close (part-1 returns-2 (λ c. search needs) (λ c. search needs) loop-again returns-3)

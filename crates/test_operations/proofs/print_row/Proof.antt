@@ -1,6 +1,7 @@
 -- The loop over the entries of a row ends: j counts up to the width.
 use Prim.Native.Nat.{_-_}
 use borrow.Author.Needs.{needs}
+use Rattle.math_integers.specs.Needs.{by-12}
 use Rattle.test_operations.proofs.print_row.Statement.{statement}
 use Rattle.test_operations.proofs.print_row.Tie as tie
 
@@ -12,19 +13,4 @@ abbrev μ-loop : tie.MeasureT-loop
 
 pub print-row-spec : {M : Type 1} → statement M
 print-row-spec =
-    tie.close
-    (tie.spec
-    Inv-loop
-    μ-loop
-    (λ c κs. search needs)
-    (λ c κs. search needs)
-    (λ c. search needs)
-    (λ c. search needs)
-    (λ c κs. search needs)
-    (λ c κs. search needs)
-    (λ c. search needs)
-    (λ c. search needs)
-    (λ c. search needs)
-    (λ c. search needs)
-    (λ c κs. search needs)
-    (λ c. search needs))
+    tie.close (by-12 (tie.spec Inv-loop μ-loop) (search needs))

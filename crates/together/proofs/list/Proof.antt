@@ -4,7 +4,7 @@ use Prim.Native.Nat.{_+_, _-_, _*_, _≤_}
 use mathlib.Core.Path.{_≡_}
 use lib.ListN.{length}
 use borrow.Author.Needs.{needs}
-use Rattle.io_streams.specs.Needs.{by-12}
+use Rattle.math_integers.specs.Needs.{by-12}
 use Rattle.together.proofs.list.Statement.{statement}
 use Rattle.together.proofs.list.Tie as tie
 

@@ -5,7 +5,7 @@ use native.Mathlib.Omega.{arith}
 use lib.ListN.{length}
 use borrow.Author.Needs.{needs}
 use borrow.Author.Tests.{not-false}
-use Rattle.io_streams.specs.Needs.{by-4}
+use Rattle.math_integers.specs.Needs.{by-4}
 use Rattle.together.proofs.main.Statement.{statement}
 use Rattle.together.proofs.main.Tie as tie
 

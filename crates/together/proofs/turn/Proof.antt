@@ -7,7 +7,7 @@ use native.Mathlib.Omega.{arith}
 use lib.Dec.{leb}
 use borrow.Author.Needs.{needs}
 use borrow.Author.Tests.{leb-true, not-false}
-use Rattle.io_streams.specs.Needs.{by-4, by-8}
+use Rattle.math_integers.specs.Needs.{by-4, by-8}
 use Rattle.together.proofs.turn.Statement.{statement}
 use Rattle.together.proofs.turn.Tie as tie
 

@@ -5,6 +5,7 @@ use mathlib.Core.Path.{_≡_}
 use mathlib.Core.List.{List}
 use lib.ListN.{length}
 use borrow.Author.Needs.{needs}
+use Rattle.math_integers.specs.Needs.{by-4}
 use Rattle.law_refusals.specs.Rows.{answer-done, answer-else}
 use Rattle.law_refusals.specs.Calls.{decode-alaw-exactly}
 use Rattle.decoder.specs.Promise.{refusal-keeps-octets, octets-keep}
@@ -43,14 +44,4 @@ returns-3 c =
 
 pub decode-alaw-spec : {M : Type 1} → statement M
 decode-alaw-spec =
-    tie.close
-    (tie.spec
-    (λ c κs. search needs)
-    returns
-    (λ c. search needs)
-    (λ c κs. search needs)
-    (λ c. search needs)
-    (λ c κs. search needs)
-    (λ c. search needs)
-    returns-2
-    returns-3)
+    tie.close (by-4 (tie.spec (λ c κs. search needs) returns) (search needs) (λ c. search needs) returns-2 returns-3)

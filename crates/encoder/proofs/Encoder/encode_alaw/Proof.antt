@@ -2,6 +2,7 @@
 -- samples that the octets stand for.
 use mathlib.Core.Path.{sym, _∙_}
 use borrow.Author.Needs.{needs}
+use Rattle.math_integers.specs.Needs.{by-4}
 use Rattle.law_refusals.specs.Calls.{encode-exactly}
 use Rattle.pcm_alaw.specs.Facts.{samples-length}
 use Rattle.encoder.specs.Promise.{refusal-keeps}
@@ -23,14 +24,4 @@ returns-2 c =
 
 pub encode-alaw-spec : {M : Type 1} → statement M
 encode-alaw-spec =
-    tie.close
-    (tie.spec
-    (λ c κs. search needs)
-    returns
-    (λ c κs. search needs)
-    (λ c. search needs)
-    (λ c κs. search needs)
-    (λ c. search needs)
-    (λ c κs. search needs)
-    (λ c. search needs)
-    returns-2)
+    tie.close (by-4 (tie.spec (λ c κs. search needs) returns) (search needs) (λ c κs. search needs) (λ c. search needs) returns-2)

@@ -6,6 +6,7 @@ use mathlib.Core.List.{List}
 use lib.IntN.{ℤ, pos}
 use lib.ListN.{length, replicate}
 use borrow.Author.Needs.{needs}
+use Rattle.math_integers.specs.Needs.{by-4}
 use Rattle.standard.specs.Files.{file-words}
 use Rattle.encoder.specs.Promise.{Encodes}
 use Rattle.list_frames.specs.Promise.{nothing, limit-keeps, refused-keeps, done-keeps}
@@ -65,15 +66,4 @@ returns-3 c =
 
 pub listed-spec : {M : Type 1} → statement M
 listed-spec =
-    tie.close
-    (tie.spec
-    returns
-    (λ c κs. search needs)
-    (λ c. search needs)
-    (λ c. search needs)
-    (λ c κs. search needs)
-    returns-2
-    (λ c. search needs)
-    (λ c. search needs)
-    (λ c κs. search needs)
-    returns-3)
+    tie.close (by-4 (tie.spec returns) (search needs) returns-2 (λ c. search needs) (λ c. search needs) (λ c κs. search needs) returns-3)

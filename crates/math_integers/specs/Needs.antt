@@ -1,4 +1,5 @@
--- Needs of a function that stand one behind the other, answered as one tuple, so that one `search` finds them all.
+-- Needs of a function that stand one behind the other, answered as one tuple, so that one `search` finds them all. In a proof `part-1`,
+-- `part-2` and so on are `tie.spec` with its needs up to there answered.
 module _ {A₀ A₁ A₂ A₃ : Type 0} {R : Type 2} where
   pub by-4 : (A₀ → A₁ → A₂ → A₃ → R) → A₀ × A₁ × A₂ × A₃ → R
   by-4 f a = f (a .0) (a .1) (a .2) (a .3)
