@@ -5,7 +5,7 @@ use Rattle.std.proofs.Math.Path.{refl, ap₂}
 use Rattle.std.proofs.Math.Bool.{true, false}
 use Rattle.std.proofs.Math.Logic.{inl, inr, ⊎_elim}
 use Rattle.std.proofs.Common.{arith, mul-le-mul, le-div_iff_mul-le, div-lt_iff_lt-mul, SFits}
-use Rattle.std.proofs.Math.Nat.{pow-succ', add-mul-div_left, div-eq_of_lt, zero-div, div_zero as n/0}
+use Rattle.std.proofs.Math.Nat.{pow-succ', add-mul-div_left, div-eq_of_lt, zero-div, div-zero as n/0}
 use Rattle.std.proofs.Math.IntN.{pos}
 use Rattle.std.proofs.Math.Pow.{pow_mono}
 use Rattle.std.specs.Int.Signed.{lt_z, le_z}

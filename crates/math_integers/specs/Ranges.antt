@@ -56,7 +56,7 @@ back f = to_z-of_z f
 
 pub res : {n : ℕ} {w : Width} {ps : List (ParamKind n)} {Q : Out n ps (r_s_num w)} {Γ : Cx} {ar : ArgsT ps Γ.locals} {u : Mo Γ}
     → (k : Called ps (r_s_num w) Q Γ ar u) → to_z w (of_z w k.result) ≡ k.result
-res k = to_z-of_z (record { sfits = k.ok })
+res k = to_z-of_z (record { sfits = k.type_inv })
 
 -- a claim about a computed number, at the number that is read back
 pub at : {w : Width} {z y : ℤ} (Q : ℤ → Type 0) → SFits w z → z ≡ y → Q y → Q (to_z w (of_z w z))

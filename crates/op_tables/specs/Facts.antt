@@ -15,7 +15,7 @@ use Rattle.standard.specs.Tables.{◌at◌, MIC, MAC, FAC, NRFAC, LARc_widths}
 
 -- an entry that was read is what its local gives back
 pub entry : {z : ℤ} → mag z < 32768 → mem w16 z ≡ z
-entry h = back (sfits_of h)
+entry h = back {w = w16} (sfits_of h)
 
 -- beyond its end a table gives the default d, which is 0 in the tables
 pub past_end : {A : Type 0} {d : A} (t : List A) {i : ℕ} → length t ≤ i → d ≡ get_or t i d

@@ -1,0 +1,13 @@
+-- The array and MAC of the definition are the same 8 numbers, by computation; beyond the end both give 0 (`past_end`).
+use borrow.Author.Rules.{rules}
+use Rattle.standard.specs.Tables.{MAC}
+use Rattle.op_tables.specs.Facts.{entry, past_end}
+use Rattle.op_tables.proofs.lar_mac.Goals as goal
+
+pub returns-then-i-lt8 : goal.returns-then-i-lt8
+unfolding MAC
+returns-then-i-lt8 c = entry c.result-then-i-lt8-1.given
+
+pub returns-else-i-lt8 : goal.returns-else-i-lt8
+unfolding MAC
+returns-else-i-lt8 c = past_end MAC c.if-i-lt8.false
