@@ -164,37 +164,251 @@ def asking():
 ASKING, KNOWN = asking()
 
 
+def source_words():
+    words = set()
+    for folder, inner, files in os.walk("crates"):
+        inner[:] = [d for d in inner if d != "out"]
+        for f in files:
+            if f.endswith(".rt"):
+                words |= set(re.findall(r"[A-Za-z_]\w*", re.sub(r"//[^\n]*", "", read(os.path.join(folder, f)))))
+    return words
+
+
+SOURCE_WORDS = source_words()
+DASHED_WORDS = {w.replace("_", "-"): w for w in SOURCE_WORDS if "_" in w}
+
+
+def own_names():
+    """The names that files of specs/ declare, as module → names."""
+    out = {}
+    for folder, inner, files in os.walk("crates"):
+        inner[:] = [d for d in inner if d != "out"]
+        for f in files:
+            if f.endswith(".antt") and "/specs" in folder:
+                crate = folder.split("/")[1]
+                out[(crate, f[:-5])] = read(os.path.join(folder, f))
+    return out
+
+
+OWN = own_names()
+
+
+def respell(text):
+    """Names of the source with a dash, and imports of our own names that were respelled."""
+    def word(m):
+        return "." + DASHED_WORDS[m[1]] if m[1] in DASHED_WORDS else m[0]
+    text = re.sub(r"(?<=[\w'₀-₉)])\.([a-z][\w]*(?:-[\w]+)+)(?![\w'-])", word, text)
+    for m in re.finditer(r"use Rattle\.(\w+)\.specs\.(\w+)\.\{([^}]*)\}", text):
+        for n in re.split(r",\s*", m[3]):
+            u = n.replace("-", "_")
+            if "-" in n and re.search(r"(?m)^\s*(?:(?:abbrev|unfoldable|pub) )*" + re.escape(u) + r"(?![\w'-])", OWN.get((m[1], m[2]), "")):
+                text = re.sub(r"(?<![\w'₀-₉.-])" + re.escape(n) + r"(?![\w'₀-₉-])", u, text)
+    return text
+
+
 def is_search(term):
     if isinstance(term, tuple):
         return term[1] == "search rules"
     return bool(re.match(r"^(λ [^.]*\. )?search rules$", strip_parens(term)))
 
 
+NEW_KINDS = ()
+
+
+def dashed(name):
+    return name.replace("_", "-")
+
+
 class Function:
     def __init__(self, crate, folder, entry):
         self.crate, self.folder, self.entry = crate, folder, entry
         self.module = folder.split("/proofs/", 1)[1].replace("/", ".")
-        self.steps, self.places = {}, {}
-        self.fields = {}
-        for (old, _parent, step, _fn, bits), new in zip(entry["places"], entry["places_by_name"]):
+        self.places, self.step, self.parent, self.fields, self.clause = {}, {}, {}, {}, {}
+        self.called, self.typed = {}, {}
+        clauses = entry.get("clauses") or []
+        for k, ((old, parent, step, _fn, bits), new) in enumerate(zip(entry["places"], entry["places_by_name"])):
+            key = dashed(old)
+            self.places[key] = (old, new)
+            self.called[key] = (entry.get("params") or {}).get(_fn) if _fn else None
+            self.typed[key] = bool((entry.get("typed") or [[]] * 999)[k])
+            self.parent[key] = dashed(parent) if parent else None
+            if step and step[0]:
+                self.step[key] = (dashed(step[0]), step[1])
             for a, b in bits or []:
                 self.fields[(step[1], a)] = b
-            self.places[old.replace("_", "-")] = (old, new)
-            if step and step[0]:
-                self.steps[step[0].replace("_", "-")] = step[1]
+            if k < len(clauses) and clauses[k]:
+                self.clause[key] = clauses[k]["fields"]
         self.loops = entry.get("loops") or []
+        self.asked_at = {}
+        for (_old, new), (at, _n) in zip(entry["needs"], entry["asked_at"]):
+            self.asked_at[new] = dashed(at)
+        self.gives = {}
 
-    def term(self, text):
-        """A term of the old file in today's names."""
-        def step(m):
-            old = m[1].replace("_", "-")
-            return "." + self.steps.get(old, m[1])
-        text = re.sub(r"(?<=[\w₀-₉'′)\-])\.([A-Za-z][\w\-']*)", step, text)
+    def is_new(self, place):
+        return place in self.step and self.step[place][0].rstrip("0123456789").replace("-", "_") in NEW_KINDS
+
+    def up(self, place, n):
+        """The place n steps above in the older chain, and how many steps that is today."""
+        steps = 0
+        while n and place:
+            place = self.parent.get(place)
+            steps += 1
+            while place and self.is_new(place):
+                place = self.parent.get(place)
+                steps += 1
+            n -= 1
+        return place, steps
+
+    def viewed(self, place):
+        """Whether today's name of a place is a record over the place itself."""
+        return self.typed.get(place)
+
+    def at_has(self, place):
+        return self.viewed(place) and re.match(r"After-(?!.*-1$)|In-|At-", self.places[place][1])
+
+    def path(self, place, parts):
+        """The fields behind a place, in today's names."""
+        parts = list(parts)
+        if place in self.step and dashed(parts[0]) == self.step[place][0]:
+            parts[0] = self.step[place][1]
+            if len(parts) > 1 and (parts[0], parts[1]) in self.fields:
+                parts[1] = self.fields[(parts[0], parts[1])]
+            if len(parts) > 1 and parts[1] == "ensures" and place in self.clause:
+                f = self.clause[place]
+                if len(f) == 1:
+                    parts.insert(2, f[0])
+                elif len(parts) > 2 and parts[2].isdigit() and int(parts[2]) < len(f):
+                    parts[2] = f[int(parts[2])]
+            if len(parts) > 2 and parts[1] == "new" and self.called.get(place):
+                k, n = 2, 0
+                while k < len(parts) and parts[k] == "1":
+                    k, n = k + 1, n + 1
+                if k < len(parts) and parts[k] == "0" and n < len(self.called[place]):
+                    parts[2 : k + 1] = [self.called[place][n]]
+            if len(parts) > 1 and parts[1] == "taken":
+                parts[1] = "true"
+        return parts
+
+    def term(self, text, known, goal=None):
+        """A term of the older file in today's names; known has the places of variables."""
+        known = dict(known)
+        given = set(known)
+        root = next(iter(known), None) if goal else None
+        rooted = {root}
+        records = {}
+        chain = r"(?<![\w.'₀-₉-])([A-Za-z][\w'₀-₉-]*)((?:\.before)*)((?:\.[\w'₀-₉-]+)*)"
+
+        def one(m):
+            var, befores, rest = m[1], m[2].count(".before"), m[3]
+            if var in records and rest:
+                f = re.match(r"\.(\d+)(.*)$", rest)
+                if f and int(f[1]) < len(records[var]) and not befores:
+                    return var + "." + records[var][int(f[1])] + f[2]
+            if var not in known or not known[var]:
+                return self.loose(m[0])
+            place, steps = self.up(known[var], befores)
+            if place is None:
+                return self.loose(m[0])
+            if var in given and self.viewed(known[var]) and steps:
+                steps += 1
+            parts = rest.split(".")[1:]
+            out = var if parts else var + ".before" * steps
+            if not parts and befores and goal and var in rooted and self.at_has(place):
+                out = f"(goal.at.{goal} {root}).{self.places[place][1]}"
+            if parts:
+                parts = self.path(place, parts)
+                out += "." + ".".join(parts)
+            return out
+
+        def applied(m):
+            place = self.gives.get(m[2])
+            if not place:
+                return m[0]
+            place, steps = self.up(place, m[3].count(".before"))
+            parts = m[4].split(".")[1:]
+            if place is None:
+                return m[0]
+            if parts:
+                return m[1] + "." + ".".join(self.path(place, parts))
+            return m[1] + ".before" * steps
+
+        text = re.sub(r"(\(([A-Za-z][\w'₀-₉-]*) [^()]*\))((?:\.before)*)((?:\.[\w'₀-₉-]+)*)", applied, text)
+
+        # lets in the order of the text, so that a bound variable is known behind its let
+        pieces = re.split(r"(\blet [^=]*?= )", text)
+        done = ""
+        i = 0
+        while i < len(pieces):
+            piece = pieces[i]
+            if i % 2 == 1:
+                binder = piece
+                name = re.match(r"let ([\w'₀-₉-]+)", binder)
+                value = pieces[i + 1] if i + 1 < len(pieces) else ""
+                m = re.match(r"([A-Za-z][\w'₀-₉-]*)((?:\.before)*)((?:\.[\w'₀-₉-]+)*)\s+in\b", value)
+                call = re.match(r"([A-Za-z][\w'₀-₉-]*) ([A-Za-z][\w'₀-₉-]*)((?:\.before)*)\s+in\b", value)
+                done += re.sub(chain, one, binder) if ":" in binder else binder
+                if name:
+                    known.pop(name[1], None)
+                    if name[1] != root:
+                        rooted.discard(name[1])
+                    records.pop(name[1], None)
+                done_value = re.sub(chain, one, value)
+                if name and m and not m[3] and known.get(m[1]):
+                    known[name[1]] = self.up(known[m[1]], m[2].count(".before"))[0]
+                    if goal and m[1] in rooted:
+                        rooted.add(name[1])
+                    if goal and m[1] in rooted and self.at_has(known[name[1]]) and m[2]:
+                        given.add(name[1])
+                    elif not m[2] and m[1] in given:
+                        given.add(name[1])
+                    else:
+                        given.discard(name[1])
+                elif name and call and call[1] in self.gives:
+                    known[name[1]] = self.gives[call[1]]
+                elif name and m and known.get(m[1]) and re.match(r"\.[\w'-]+\.ensures$", m[3]):
+                    place, _ = self.up(known[m[1]], m[2].count(".before"))
+                    if place and place in self.clause and len(self.clause[place]) > 1:
+                        records[name[1]] = self.clause[place]
+                if name:
+                    # what follows in this piece was read before the name was known
+                    head, sep, tail = value.partition(" in")
+                    head2 = re.sub(chain, one, head) if not (name[1] in head.split()) else re.sub(chain, one, head)
+                    done += head2 + sep + re.sub(chain, one, tail)
+                else:
+                    done += done_value
+                i += 2
+                continue
+            done += re.sub(chain, one, piece)
+            i += 1
+        text = done
+        text = re.sub(r"\.inv(?![\w'-])", ".invariant", text)
+        text = re.sub(r"\.pre(?![\w'-])", ".requires", text)
+        text = re.sub(r"\.fits\.", ".ranges.", text)
         for (where, a), b in self.fields.items():
             text = re.sub(r"\." + re.escape(where) + r"\." + re.escape(a) + r"(?![\w\-'])", f".{where}.{b}", text)
-        text = re.sub(r"\.inv\b", ".invariant", text)
-        text = re.sub(r"\.pre\b", ".requires", text)
+        for (_where, a), b in self.fields.items():
+            text = re.sub(r"(to_z w\d+ [A-Za-z][\w'₀-₉-]*\.)" + re.escape(a) + r"(?![\w'-])", r"\1" + self.fields[(_where, a)], text)
+        for a, b in self.entry.get("args") or []:
+            text = re.sub(re.escape(a.replace(" ", "")) + r"(?![\w'-])", b.replace(" ", ""), text)
         return text
+
+    def loose(self, text):
+        """A path whose head is not known: steps behind a .before, and steps whose name is nothing else."""
+        news = {}
+        for place, (old, new) in self.step.items():
+            news.setdefault(old, set()).add((new, place))
+        parts = text.split(".")
+        out = [parts[0]]
+        for i, part in enumerate(parts[1:]):
+            key = dashed(part)
+            if key in news and len({n for n, _ in news[key]}) == 1:
+                (new, place) = next(iter(news[key]))
+                plain = part in SOURCE_WORDS and part not in ("loop",) and not part.startswith("if")
+                if not plain or parts[i] == "before" or new == part.replace("-", "_"):
+                    out.append(new)
+                    continue
+            out.append(part)
+        return ".".join(out)
 
     def types(self, text):
         """tie.PLACE as a type."""
@@ -210,6 +424,7 @@ class Function:
 
 def turn(crate, folder, entry):
     text = read(os.path.join(folder, "Proof.antt"))
+    text = respell(text)
     text = re.sub(r"\bback \((wide|product_fits|sum_fits|difference_fits|rounded_fits) (?![^()]*\{)", r"back {w = w32} (\1 ", text)
     fn = Function(crate, folder, entry)
     fn.used = set()
@@ -224,7 +439,7 @@ def turn(crate, folder, entry):
                 (uses if l.startswith("use ") else head_comment).append(l)
         else:
             rest.append(b)
-    body = re.split(r"\n\S+ =", spec, 1)
+    body = re.split(r"\n\S+ =", spec, maxsplit=1)
     if len(body) < 2:
         raise ValueError("no body of the spec")
     opened = re.search(r"\n(unfolding [^\n]*)", spec)
@@ -275,7 +490,8 @@ def turn(crate, folder, entry):
     pairs = [(t, new) for t, new in pairs if not (new.endswith("-requires") and new[: -len("-requires")] in empty or re.sub(r"-requires", "", new) in empty)]
     for t, new in pairs:
         if isinstance(t, str) and t in typed:
-            renamed[t] = new
+            if t not in renamed:
+                renamed[t] = new
     tail = []
     for t, new in pairs:
         if isinstance(t, str) and t in typed:
@@ -301,6 +517,41 @@ def turn(crate, folder, entry):
         else:
             helpers.append(b)
     body_out = []
+
+    def placed(b):
+        """The variables of a block whose places its signatures tell."""
+        known = {}
+        for m in re.finditer(r"\(([\w'₀-₉ -]+?) : tie\.([A-Za-z][\w-]*)", b):
+            for v in m[1].split():
+                if dashed(m[2]) in fn.places:
+                    known[v] = dashed(m[2])
+        sig = None
+        for l in b.split("\n"):
+            m = re.match(r"\s*(?:(?:abbrev|unfoldable|pub) )*([^\s(){}]+) : (.*)$", l)
+            if m:
+                sig = (m[1], m[2])
+                const = re.match(r"tie\.([A-Za-z][\w-]*)(?: invariant-loop\d*| decreases-loop\d*)*$", m[2])
+                if const and dashed(const[1]) in fn.places:
+                    fn.gives[m[1]] = dashed(const[1])
+                    if l[0].isspace():
+                        known[m[1]] = dashed(const[1])
+                ends = re.findall(r"tie\.([A-Za-z][\w-]*)", m[2])
+                if ends and re.search(r"→ tie\.[A-Za-z][\w-]*(?: invariant-loop\d*| decreases-loop\d*)*$", m[2]) and dashed(ends[-1]) in fn.places:
+                    fn.gives[m[1]] = dashed(ends[-1])
+                continue
+            if sig:
+                m = re.match(r"\s*" + re.escape(sig[0]) + r" ([^=]*)=", l)
+                if m and m[1].split():
+                    names = m[1].split()
+                    need = re.match(r"tie\.Need-(\S+)", sig[1])
+                    first = re.match(r"\(?(?:[\w'₀-₉-]+ : )?tie\.([A-Za-z][\w-]*)", sig[1])
+                    if need and sig[0] in renamed:
+                        known[names[0]] = fn.asked_at.get(renamed[sig[0]])
+                    elif first and dashed(first[1]) in fn.places:
+                        known[names[0]] = dashed(first[1])
+                    sig = None
+        return known
+
     for b in helpers:
         lines = b.split("\n")
         if any((m := re.match(r"(pub )?(" + IDC + r"+) : tie\.Need-", l)) and m[2] not in renamed for l in lines):
@@ -311,16 +562,21 @@ def turn(crate, folder, entry):
             m = re.match(r"(pub )?(" + IDC + r"+) : tie\.Need-[^\n]*$", l)
             if m and m[2] in renamed:
                 new = renamed[m[2]]
-                lines[i] = f"pub {new} : goal.{new}"
+                lines[i] = f"pub {m[2]} : goal.{new}"
                 whole = "\n".join(lines[i + 1 :])
                 if re.match(r"^\S+ (c )?(\S+ )?= search rules$", whole.strip()) or whole.strip() == f"{m[2]} c = search rules":
                     pass
         s = "\n".join(lines)
-        s = fn.types(s)
-        s = rename(fn.term(s))
+        m = re.match(r"((?:--[^\n]*\n)*)pub \S+ : goal\.(\S+)\n", s)
+        s = rename(fn.types(fn.term(s, placed(b), m[2] if m else None)))
+        m = re.match(r"((?:--[^\n]*\n)*)pub (\S+) : goal\.\S+\n", s)
+        if m:
+            s = finish(s, m[2], entry, note)
         body_out.append(s)
     for new, sig, d in tail:
-        body_out.append(sig + "\n" + rename(fn.term(fn.types(d))))
+        first = re.match(r"\S+ (\S+)", d)
+        known = {first[1]: fn.asked_at.get(new)} if first else {}
+        body_out.append(finish(sig + "\n" + rename(fn.types(fn.term(d, known, new))), new, entry, note))
     inv_text = "\n".join(invs)
     needed, names_needed = [], []
     word = lambda n: re.search(r"(?<![^\s(){}\[\],;:])" + re.escape(n) + r"(?![^\s(){}\[\],;:.])", inv_text + "\n".join(needed))
@@ -351,6 +607,48 @@ def turn(crate, folder, entry):
     return note
 
 
+def finish(s, goal, entry, note):
+    """The last touches of an answer: no lifetimes at a call's requires, and a record where the clauses have names."""
+    head = re.search(r"(?m)^" + re.escape(goal) + r"( [^=]*)? =", s)
+    if not head:
+        note.append(f"{goal}: no clause found")
+        return s
+    body = s[head.end() :]
+    names = (head[1] or "").split()
+    if "-requires" in goal and len(names) > 1 and not re.search(r"(?<![\w'₀-₉])" + re.escape(names[1]) + r"(?![\w'₀-₉])", body):
+        s = s[: head.start()] + goal + " " + " ".join(names[:1] + names[2:]) + " =" + body
+        head = re.search(r"(?m)^" + re.escape(goal) + r"( [^=]*)? =", s)
+    fields = (entry.get("asked") or {}).get(goal)
+    if fields:
+        body = s[head.end() :]
+        depth, at = 0, 0
+        for m in re.finditer(r"[(\[{]|[)\]}]|(?<=\s)in(?=\s)", body):
+            if m[0] in "([{":
+                depth += 1
+            elif m[0] in ")]}":
+                depth -= 1
+            elif depth == 0:
+                at = m.end()
+        last = body[at:]
+        # a tuple may open before its line ends: `in (` with its parts below
+        lead = re.match(r"\s*", last)[0]
+        core = last.strip()
+        if len(fields) == 1:
+            new = f"record {{ {fields[0]} = {core} }}"
+        else:
+            parts = commas(core[1:-1]) if core.startswith("(") and strip_parens(core) != core else []
+            parts = [p for p in parts if p]
+            if len(parts) != len(fields) and not re.match(r"(rw (?!.* at )|cc|search|omega|grind|elim|simp|\()", core) and len(fields) == 2:
+                new = f"let both = {core} in record {{ " + "; ".join(f"{f} = both.{k}" for k, f in enumerate(fields)) + " }"
+            elif len(parts) != len(fields):
+                note.append(f"{goal}: a record of {', '.join(fields)} by hand")
+                return s
+            else:
+                new = "record {\n      " + ";\n      ".join(f"{f} = {p}" for f, p in zip(fields, parts)) + ";\n    }"
+        s = s[: head.end()] + body[:at] + lead + new
+    return s
+
+
 def invariants(fn, head, uses, invs, note, needed):
     text = []
     for b in invs:
@@ -374,8 +672,10 @@ def invariants(fn, head, uses, invs, note, needed):
             one = r"(?<![^\s(){}\[\],;:])" + re.escape(a) + r"(?![^\s(){}\[\],;:.])"
             body = re.sub(r"\(to_z w\d+ " + re.escape(a) + r"\)", "\0" + sub[a], body)
             body = re.sub(r"to_z w\d+ " + re.escape(a) + r"(?![^\s(){}\[\],;:.])", "\0" + sub[a], body)
+            body = re.sub(r"(?<=[{;] )" + re.escape(a) + r"(?= = )", "\1" + a, body)
             body = re.sub(one, "\0" + sub[a], body)
-        body = body.replace("\0", "")
+        body = body.replace("\0", "").replace("\1", "")
+        body = re.sub(r"\bl\.(?:initial\.)?([a-z]\w*-[\w-]+)", lambda m: m[0].replace(m[1], DASHED_WORDS.get(m[1], m[1])), body)
         opened = re.search(r"^unfolding [^\n]*$", b, re.M)
         comment = "".join(l + "\n" for l in b.split("\n") if l.startswith("--"))
         text.append(f"{comment}abbrev pub {kind}-{label} : goal.{kind}-{label}\n" + (opened[0] + "\n" if opened else "") + f"{kind}-{label} l ={body}")

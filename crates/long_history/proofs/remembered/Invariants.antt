@@ -1,0 +1,18 @@
+-- The list starts as 280 zeros. Iteration k copies sample k, so the first 120 become the history and 160 zeros stay.
+use mathlib.Core.Path.{◌≡◌, refl, ◌∙◌}
+use Prim.Native.Nat.{◌-◌, ◌≤◌}
+use native.Mathlib.Omega.{arith}
+use borrow.Author.Rules.{rules, sfits_of}
+use lib.IntN.{pos}
+use lib.ListN.{length, length-set, replicate}
+use lib.Seq.{take_all}
+use Rattle.math_integers.specs.Ranges.{back}
+use Rattle.math_integers.specs.Needs.{by_4}
+use Rattle.math_lists.specs.Fill.{filled, fill_next}
+use Rattle.long_history.proofs.remembered.Given as goal
+
+abbrev pub invariant-loop-k : goal.invariant-loop-k
+invariant-loop-k l = (l.k ≤ 120) × (length l.all ≡ 280) × (l.all ≡ filled l.k l.dp l.initial.all)
+
+abbrev pub decreases-loop-k : goal.decreases-loop-k
+decreases-loop-k l = 120 - l.k
