@@ -198,6 +198,7 @@ def respell(text):
     def word(m):
         return "." + DASHED_WORDS[m[1]] if m[1] in DASHED_WORDS else m[0]
     text = re.sub(r"(?<=[\w'₀-₉)])\.([a-z][\w]*(?:-[\w]+)+)(?![\w'-])", word, text)
+    text = re.sub(r"\.shr_at(?![\w'-])", ".shr", text)
     for m in re.finditer(r"use Rattle\.(\w+)\.specs\.(\w+)\.\{([^}]*)\}", text):
         for n in re.split(r",\s*", m[3]):
             u = n.replace("-", "_")
@@ -263,12 +264,25 @@ class Function:
         """Whether today's name of a place is a record over the place itself."""
         return self.typed.get(place)
 
+    def argument(self, name):
+        for a, b in self.entry.get("args") or []:
+            if a == ".args ." + name:
+                return b.split(".")[-1]
+        return name
+
     def at_has(self, place):
         return self.viewed(place) and re.match(r"After-(?!.*-1$)|In-|At-", self.places[place][1])
 
-    def path(self, place, parts):
-        """The fields behind a place, in today's names."""
+    def path(self, place, parts, var=None):
+        """The fields behind a place, in today's names: a step of the place, or else of one that its record opens."""
         parts = list(parts)
+        if place not in self.step or dashed(parts[0]) != self.step[place][0]:
+            at = var or place
+            while at:
+                if at in self.step and dashed(parts[0]) == self.step[at][0]:
+                    place = at
+                    break
+                at = self.parent.get(at)
         if place in self.step and dashed(parts[0]) == self.step[place][0]:
             parts[0] = self.step[place][1]
             if len(parts) > 1 and (parts[0], parts[1]) in self.fields:
@@ -295,11 +309,14 @@ class Function:
         given = set(known)
         root = next(iter(known), None) if goal else None
         rooted = {root}
-        records = {}
+        records, arguments = {}, set()
         chain = r"(?<![\w.'₀-₉-])([A-Za-z][\w'₀-₉-]*)((?:\.before)*)((?:\.[\w'₀-₉-]+)*)"
 
         def one(m):
             var, befores, rest = m[1], m[2].count(".before"), m[3]
+            if var in arguments and rest and not befores:
+                parts = rest.split(".")[1:]
+                return ".".join([var, self.argument(parts[0])] + parts[1:])
             if var in records and rest:
                 f = re.match(r"\.(\d+)(.*)$", rest)
                 if f and int(f[1]) < len(records[var]) and not befores:
@@ -308,7 +325,7 @@ class Function:
                 return self.loose(m[0])
             place, steps = self.up(known[var], befores)
             if place is None:
-                return self.loose(m[0])
+                place = "Start"
             if var in given and self.viewed(known[var]) and steps:
                 steps += 1
             parts = rest.split(".")[1:]
@@ -316,7 +333,9 @@ class Function:
             if not parts and befores and goal and var in rooted and self.at_has(place):
                 out = f"(goal.at.{goal} {root}).{self.places[place][1]}"
             if parts:
-                parts = self.path(place, parts)
+                parts = self.path(place, parts, known[var])
+                if parts[0] == "args" and len(parts) > 1:
+                    parts[1] = self.argument(parts[1])
                 out += "." + ".".join(parts)
             return out
 
@@ -353,7 +372,19 @@ class Function:
                         rooted.discard(name[1])
                     records.pop(name[1], None)
                 done_value = re.sub(chain, one, value)
-                if name and m and not m[3] and known.get(m[1]):
+                if name:
+                    arguments.discard(name[1])
+                if name and m and m[3] == ".args":
+                    arguments.add(name[1])
+                behind = value[m.end() :] + "".join(pieces[i + 2 :]) if m else ""
+                uses = re.findall(r"(?<![\w.'₀-₉-])" + re.escape(name[1]) + r"((?:\.before)*)((?:\.[\w'₀-₉-]+)?)(?![\w'₀-₉-])", behind) if name else []
+                if name and m and not m[3] and m[2] and known.get(m[1]) and ":" not in binder and all(u[1] for u in uses) and (goal is None or m[1] in rooted or m[1] in given):
+                    value = m[1] + re.sub(r"^[^\s]*", "", value[: m.end()]) + value[m.end() :]
+                    known[name[1]] = known[m[1]]
+                    (given.add if m[1] in given else given.discard)(name[1])
+                    if m[1] in rooted:
+                        rooted.add(name[1])
+                elif name and m and not m[3] and known.get(m[1]):
                     known[name[1]] = self.up(known[m[1]], m[2].count(".before"))[0]
                     if goal and m[1] in rooted:
                         rooted.add(name[1])
@@ -404,7 +435,8 @@ class Function:
             if key in news and len({n for n, _ in news[key]}) == 1:
                 (new, place) = next(iter(news[key]))
                 plain = part in SOURCE_WORDS and part not in ("loop",) and not part.startswith("if")
-                if not plain or parts[i] == "before" or new == part.replace("-", "_"):
+                behind = parts[i + 2] if i + 2 < len(parts) else ""
+                if not plain or parts[i] == "before" or behind in ("result", "ensures", "new", "given", "taken", "true", "false", "lifetimes") or new == part.replace("-", "_"):
                     out.append(new)
                     continue
             out.append(part)
@@ -638,7 +670,7 @@ def finish(s, goal, entry, note):
         else:
             parts = commas(core[1:-1]) if core.startswith("(") and strip_parens(core) != core else []
             parts = [p for p in parts if p]
-            if len(parts) != len(fields) and not re.match(r"(rw (?!.* at )|cc|search|omega|grind|elim|simp|\()", core) and len(fields) == 2:
+            if len(parts) != len(fields) and not re.match(r"(rw (?!.* at )|cc|search|omega|grind|elim|simp|\()", core):
                 new = f"let both = {core} in record {{ " + "; ".join(f"{f} = both.{k}" for k, f in enumerate(fields)) + " }"
             elif len(parts) != len(fields):
                 note.append(f"{goal}: a record of {', '.join(fields)} by hand")
