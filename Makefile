@@ -13,9 +13,7 @@ PREFIX = /usr/local
 VERSION = $(shell cat VERSION)
 PROGRAMS = lister encode decode together encode_alaw decode_alaw expand
 DIST = build/rpeltp-$(VERSION)
-SOURCES = crates.txt $(shell find crates -type f)
-# rt works in batches and waits for the slowest of each: two checks for each core leave less of a core idle.
-JOBS = $(shell expr 2 '*' $$(nproc))
+SOURCES = crates.txt $(shell find crates -type f -not -path '*/out/*')
 PYTHON = $(wildcard outside/*.py outside/tests/*.py bench/*.py)
 
 run:
@@ -24,16 +22,12 @@ run:
 	bin/rpeltp lister < recordings/speech.raw
 	@cat recordings/lines.txt
 
-# The documents are checked first, which takes seconds. Then come the proofs: what rt ci makes is compared later on,
-# so that nothing is proved twice. Where all goes well, the last line is that of rt ci.
+# The documents are checked first, which takes seconds. Then come the proofs, and with them the layout of the sources.
+# Where all goes well, the last line is that of rt ci.
 test:
 	outside/install_packages python3
 	python3 outside/check_docs.py
-	rt fmt --check
-	mkdir -p build
-	rm -f build/proved
-	{ RT_JOBS=$(JOBS) rt ci && touch build/proved; } 2>&1 | tee build/proofs.txt
-	test -f build/proved
+	outside/prove_all
 	$(MAKE) outside
 	@tail -n 1 build/proofs.txt
 
@@ -71,15 +65,15 @@ ready: archive build/bin
 archive: build/lib/librpeltp.a
 
 build/lib/librpeltp.a: $(SOURCES)
-	outside/make_proved --archive boundary
+	outside/make_proved --archive boundary_c
 	mkdir -p build/lib
-	cp target/staticlib/libboundary.a $@
+	cp crates/boundary_c/out/libboundary_c.a $@
 
 build/bin: $(SOURCES)
 	outside/make_proved $(PROGRAMS)
 	rm -rf $@
 	mkdir -p $@
-	for name in $(PROGRAMS); do cp target/bin/$$name $@/rpeltp-$$name; done
+	for name in $(PROGRAMS); do cp crates/$$name/out/$$name $@/rpeltp-$$name; done
 
 install: archive build/bin
 	install -d $(PREFIX)/bin $(PREFIX)/include $(PREFIX)/lib/pkgconfig

@@ -22,6 +22,8 @@ ROOT = os.path.dirname(os.path.dirname(os.path.abspath(__file__)))
 Fields = list[tuple[str, str]]
 Call = tuple[Fields, str]
 HEADER, RAW, BOUNDARY = 'c/rpeltp.h', 'rust/src/raw.rs', 'crates/boundary/src/lib.rt'
+# what is exported to C: each call of BOUNDARY again
+EXPORTS = 'crates/boundary_c/src/lib.rt'
 # where the structs that the calls take and return are declared, and their names in C
 STRUCTS = {'Encoder': 'crates/encoder/src/lib.rt', 'Decoder': 'crates/decoder/src/lib.rt',
            'EncodeAnswer': BOUNDARY, 'Decoded': 'crates/decoder/src/lib.rt'}
@@ -69,14 +71,14 @@ def rust_fields(body: str) -> Fields:
 
 def source_structs() -> dict[str, Fields]:
     """The fields of each struct of the calls; each is laid out as in C."""
-    bodies = {name: found(rf'#\[repr\(C\)\]\npub struct {name} \{{\n(.*?)\n\}}', read(path), f'struct {name} in {path}')
+    bodies = {name: found(rf'#\[repr\(C\)\]\n(?:#\[derive\([\w, ]*\)\]\n)?pub struct {name} \{{\n(.*?)\n\}}', read(path), f'struct {name} in {path}')
               for name, path in STRUCTS.items()}
     return {name: rust_fields(body.group(1)) for name, body in bodies.items()}
 
 
 def source_calls() -> dict[str, Call]:
     """The parameters and the result of each call that is exported."""
-    exported = re.findall(r'#\[no_mangle\]\npub extern "C" fn (\w+)\((.*?)\)\s*->\s*(\w+)', read(BOUNDARY), re.S)
+    exported = re.findall(r'#\[unsafe\(no_mangle\)\]\npub extern "C" fn (\w+)\((.*?)\)\s*->\s*(\w+)', read(EXPORTS), re.S)
     return {name: (rust_fields(parameters), result) for name, parameters, result in exported}
 
 
@@ -85,11 +87,11 @@ def source_numbers() -> dict[str, int]:
     rules, and the lengths of a frame."""
     promise, house = read('crates/boundary/specs/Promise.antt'), read('crates/standard/specs/House.antt')
     numbers: dict[str, int] = {'DONE': 0}
-    for definition, names in (('ending-number', ENDINGS), ('mark-number', MARKS)):
+    for definition, names in (('ending_number', ENDINGS), ('mark_number', MARKS)):
         cases = re.findall(rf'^{definition} (none|\(some .*\)) = (\d+)', promise, re.M)
         same(f'the cases of {definition}', [case for case, _ in cases], list(names))
         numbers.update({names[case]: int(number) for case, number in cases})
-    table = re.findall(r'^(\w+)-row \w+ = \((?:not-of (\d+) )?.*, (\d+)\)$', house, re.M)
+    table = re.findall(r'^(\w+)_row \w+ = \((?:not_of (\d+) )?.*, (\d+)\)$', house, re.M)
     rows = {name: (length, int(number)) for name, length, number in table}
     numbers.update({name: rows[row][1] for row, name in ROWS.items()})
     numbers.update({name.upper(): int(rows[name][0]) for name in ('samples', 'codewords', 'bytes')})
@@ -100,9 +102,9 @@ def source_numbers() -> dict[str, int]:
 def source_bounds() -> list[tuple[str, str]]:
     """The bounds of a sound state, from the text of the definitions."""
     house, lag = read('crates/standard/specs/House.antt'), read('crates/standard/specs/LongTerm.antt')
-    sound = found(r'^sound-coder c =\n(.*?)\n\n', house, 'sound-coder').group(1)
+    sound = found(r'^sound_coder c =\n(.*?)\n\n', house, 'sound_coder').group(1)
     pairs = re.findall(r'within \(neg (\d+)\) \(pos (\d+)\)', sound)
-    lags = found(r'is-lag .*?within \(pos (\d+)\) \(pos (\d+)\)', lag, 'is-lag').groups()
+    lags = found(r'is_lag .*?within \(pos (\d+)\) \(pos (\d+)\)', lag, 'is_lag').groups()
     return [(f'-{low}', high) for low, high in pairs] + [(lags[0], lags[1])]
 
 

@@ -68,31 +68,28 @@ PACKED = [('e29_rand16', 30), ('e17_sines', 142), ('e32_speechlike', 10)]
 LISTED = ['e02_empty', 'e03_onebyte', 'e04_319bytes', 'e05_641bytes']
 # what no vector shows: a name, the state before the frame, its samples, and what it shows
 MADE: list[tuple[str, Coder, list[int], str]] = [
-    ('stopped-at-2', Coder(), swell(160, 2, 32767, 160, 2), 'stopped at 2'),
-    ('stopped-at-5', Coder(), swell(160, 4, 32767, 160, 2), 'stopped at 5'),
-    ('stopped-at-7', Coder(), swell(160, 4, 8000, 80, 4), 'stopped at 7'),
-    ('zero-by-zero', Coder(), swell(160, 80, 20000, 160, 2), 'div(0, 0)'),
+    ('stopped_at_2', Coder(), swell(160, 2, 32767, 160, 2), 'stopped at 2'),
+    ('stopped_at_5', Coder(), swell(160, 4, 32767, 160, 2), 'stopped at 5'),
+    ('stopped_at_7', Coder(), swell(160, 4, 8000, 80, 4), 'stopped at 7'),
+    ('zero_by_zero', Coder(), swell(160, 80, 20000, 160, 2), 'div(0, 0)'),
     ('wrapped', Coder(z1=-16384, L_z2=397), [32767] + [0] * 159,
      'from a sound state: at scale 4 a sample comes back as -32768'),
-    ('any-state-20', *any_frame(20), 'any words from any sound state: clips in 4.2.3, at 26112 in 4.2.9.2, in 4.2.12'),
-    ('any-state-44', *any_frame(44), 'clips in 4.2.3, in 4.2.12 and in the first doubling of 4.2.13'),
+    ('any_state_20', *any_frame(20), 'any words from any sound state: clips in 4.2.3, at 26112 in 4.2.9.2, in 4.2.12'),
+    ('any_state_44', *any_frame(44), 'clips in 4.2.3, in 4.2.12 and in the first doubling of 4.2.13'),
 ]
 # the same for the decoder: seeds of a state and of its codewords
 MADE_DECODED = [(1, 'any words from any sound state'), (2, 'and once more')]
 
 # what the files import, where they use it
 USES = [
-    ('mathlib.Core.Path', ['_≡_', 'refl']),
-    ('mathlib.Core.Option', ['some']),
-    ('mathlib.Core.List', ['[]', '_∷_']),
-    ('lib.IntN', ['pos']),
-    ('lib.ListN', ['replicate']),
-    ('Rattle·standard.specs.Tables', ['neg']),
-    ('Rattle·standard.specs.Lpc', ['silent', 'stopped', 'complete']),
-    ('Rattle·standard.specs.House', ['rule', 'found']),
-    ('Rattle·standard.specs.Answers', ['encode', 'decode', 'pack', 'unpack']),
-    ('Rattle·standard.specs.Listing', ['text', 'listing']),
-    ('Rattle·standard.specs.Opened', ['opened']),
+    ('Rattle.std.specs.Prelude', ['◌≡◌', 'refl', '[]', '◌∷◌', 'pos', 'replicate']),
+    ('Rattle.std.proofs.Math.Option', ['some']),
+    ('Rattle.standard.specs.Tables', ['neg']),
+    ('Rattle.standard.specs.Lpc', ['silent', 'stopped', 'complete']),
+    ('Rattle.standard.specs.House', ['rule', 'found']),
+    ('Rattle.standard.specs.Answers', ['encode', 'decode', 'pack', 'unpack']),
+    ('Rattle.standard.specs.Listing', ['text', 'listing']),
+    ('Rattle.standard.specs.Opened', ['opened']),
 ]
 
 
@@ -100,7 +97,7 @@ def whole(title: str, theorems: Iterable[str]) -> str:
     """A whole file: its title, what it uses, its theorems."""
     body = ''.join(theorems)
     named = set(re.sub('[();]', ' ', re.sub('"[^"]*"', ' ', re.sub('--.*', ' ', body))).split())
-    uses = [(module, [name for name in names if name.strip('_') in named]) for module, names in USES]
+    uses = [(module, [name for name in names if name.strip('◌') in named]) for module, names in USES]
     lines = ['use %s.{%s}\n' % (module, ', '.join(names)) for module, names in uses if names]
     return f'-- {title} Written by outside/write_trials.py.\n' + ''.join(lines) + body
 
@@ -114,8 +111,8 @@ def items(xs: Iterable[int], name: Callable[[int], str] = number) -> str:
 
 
 def state(carried: states.State) -> str:
-    """A state as a record of the definitions: L_z2 is L-z2 there, a decoder's dp is drp."""
-    names = {'L_z2': 'L-z2'} if isinstance(carried, Coder) else {'dp': 'drp'}
+    """A state as a record of the definitions: a decoder's dp is drp there."""
+    names = {} if isinstance(carried, Coder) else {'dp': 'drp'}
     fields = [f'{names.get(name, name)} = {items(value) if isinstance(value, list) else number(value)}'
               for name, value in vars(carried).items()]
     return 'record { ' + '; '.join(fields) + ' }'
@@ -190,7 +187,7 @@ def encoding(folder: str) -> Iterator[str]:
     for name, place, seen in ENCODED:
         raw, cod = frames(f'{folder}/enc/{name}.raw', 160), frames(f'{folder}/enc/{name}.cod', 76)
         home = before(encode, Coder(), raw, place)
-        yield encoded(f'{name.replace("_", "-")}-{place}', seen, home, raw[place], cod[place])
+        yield encoded(f'{name}_{place}', seen, home, raw[place], cod[place])
 
 
 def made(folder: str) -> Iterator[str]:
@@ -198,31 +195,31 @@ def made(folder: str) -> Iterator[str]:
         yield encoded(name, seen, home, samples)
     for seed, seen in MADE_DECODED:
         dice = random.Random(seed)
-        yield decoded(f'any-decoder-{seed}', seen, random_decoder(dice), words(dice, 76))
+        yield decoded(f'any_decoder_{seed}', seen, random_decoder(dice), words(dice, 76))
 
 
 def decoding(folder: str) -> Iterator[str]:
     for name, place, seen in DECODED:
         cod, out = frames(f'{folder}/{name}.cod', 76), frames(f'{folder}/{name}.out', 160)
-        short = name.split('/')[1].replace('_', '-')
-        yield decoded(f'{short}-{place}', seen, before(decode, Decoder(), cod, place), cod[place], out[place])
+        short = name.split('/')[1]
+        yield decoded(f'{short}_{place}', seen, before(decode, Decoder(), cod, place), cod[place], out[place])
 
 
 def packing(folder: str) -> Iterator[str]:
     for name, place in PACKED:
         codes = items(frames(f'{folder}/enc/{name}.cod', 76)[place])
         bytes_ = items(contents(f'{folder}/enc/{name}.pack')[33 * place:33 * place + 33], str)
-        short = f'{name.replace("_", "-")}-{place}'
-        yield theorem(f'{short}-packed', 'to bytes', f'pack ({codes}) (replicate 33 255)', done(f'bytes = {bytes_}'))
+        short = f'{name}_{place}'
+        yield theorem(f'{short}_packed', 'to bytes', f'pack ({codes}) (replicate 33 255)', done(f'bytes = {bytes_}'))
         unpacked = f'unpack ({bytes_}) (replicate 76 (pos 1))'
-        yield theorem(f'{short}-unpacked', 'and back', unpacked, done(f'codewords = {codes}'))
+        yield theorem(f'{short}_unpacked', 'and back', unpacked, done(f'codewords = {codes}'))
 
 
 def listing(folder: str) -> Iterator[str]:
     for name in LISTED:
         text = contents(f'{folder}/enc/{name}.lst').decode('ascii').replace('\t', '\\t').replace('\n', '\\n')
         raw = contents(f'{folder}/enc/{name}.raw')
-        yield theorem(name.replace('_', '-'), f'{len(raw)} bytes', f'listing ({items(raw, str)})', f'text "{text}"')
+        yield theorem(name, f'{len(raw)} bytes', f'listing ({items(raw, str)})', f'text "{text}"')
 
 
 MAKERS: dict[str, tuple[str, Callable[[str], Iterator[str]]]] = {

@@ -190,7 +190,7 @@ class Trials(unittest.TestCase):
 
     def test_states(self) -> None:
         coder = write_trials.state(states.Coder(LARpp=[1], u=[], dp=[]))
-        self.assertEqual(coder, 'record { z1 = pos 0; L-z2 = pos 0; mp = pos 0; LARpp = pos 1 ∷ []; u = []; dp = [] }')
+        self.assertEqual(coder, 'record { z1 = pos 0; L_z2 = pos 0; mp = pos 0; LARpp = pos 1 ∷ []; u = []; dp = [] }')
         decoder = write_trials.state(states.Decoder(dp=[], LARpp=[], v=[]))
         self.assertEqual(decoder, 'record { drp = []; nrp = pos 40; LARpp = []; v = []; msr = pos 0 }')
 
@@ -198,8 +198,8 @@ class Trials(unittest.TestCase):
         text = write_trials.whole('Frames.', ['\n-- seen: decode\npub a : encode (pos 1) ≡ b\na = refl\n'])
         lines = text.splitlines()
         self.assertEqual(lines[0], '-- Frames. Written by outside/write_trials.py.')
-        self.assertIn('use Rattle·standard.specs.Answers.{encode}', lines)
-        self.assertIn('use lib.IntN.{pos}', lines)
+        self.assertIn('use Rattle.standard.specs.Answers.{encode}', lines)
+        self.assertIn('use Rattle.std.specs.Prelude.{◌≡◌, refl, pos}', lines)
         self.assertNotIn('replicate', text)
 
     def test_before(self) -> None:

@@ -1,6 +1,6 @@
 // Calls from C and Rust: each passes its arguments to the codec and returns the codec's answer. The states and what
 // decode answers are the codec's own; what is an enum inside is a number here. What encode promises here is in
-// specs/Promise.antt, and c/rpeltp.h says all of it to a C programmer.
+// specs/Promise.antt, and c/rpeltp.h says all of it to a C programmer. The crate boundary_c exports each of them to C.
 ghost use Rattle.std.specs.Prelude.{◌≡◌};
 ghost use Rattle.standard.specs.Alaw.{alaw_samples};
 ghost use Rattle.standard.specs.House.{home_coder, home_decoder};
@@ -14,7 +14,7 @@ use encoder::{Encoded, Encoder, Ending, Mark};
 
 // What encode answers: 288 bytes, no padding.
 #[repr(C)]
-#[derive(Drop)]
+#[derive(Clone, Copy)]
 pub struct EncodeAnswer {
     pub state: Encoder,
     pub number: u16,
@@ -70,24 +70,21 @@ fn encode_answer(a: Encoded) -> EncodeAnswer
 }
 
 // The encoder at home.
-#[unsafe(no_mangle)]
-pub extern "C" fn rpeltp_encoder_home() -> Encoder
+pub fn rpeltp_encoder_home() -> Encoder
     ensures { coder result ≡ home_coder }
 {
     Encoder::home()
 }
 
 // The decoder at home.
-#[unsafe(no_mangle)]
-pub extern "C" fn rpeltp_decoder_home() -> Decoder
+pub fn rpeltp_decoder_home() -> Decoder
     ensures { memory result ≡ home_decoder }
 {
     Decoder::home()
 }
 
 // 160 samples to 76 codewords.
-#[unsafe(no_mangle)]
-pub extern "C" fn rpeltp_encode(
+pub fn rpeltp_encode(
     state: Encoder,
     samples: &[i16],
     codewords: &mut [i16],
@@ -98,16 +95,14 @@ pub extern "C" fn rpeltp_encode(
 }
 
 // 76 codewords to 160 samples.
-#[unsafe(no_mangle)]
-pub extern "C" fn rpeltp_decode(state: Decoder, codewords: &[i16], samples: &mut [i16]) -> Decoded
+pub fn rpeltp_decode(state: Decoder, codewords: &[i16], samples: &mut [i16]) -> Decoded
     ensures { Decodes state codewords.now samples.old result samples.new }
 {
     state.decode(codewords, samples)
 }
 
 // 160 octets of A-law to 76 codewords.
-#[unsafe(no_mangle)]
-pub extern "C" fn rpeltp_encode_alaw(
+pub fn rpeltp_encode_alaw(
     state: Encoder,
     octets: &[u8],
     codewords: &mut [i16],
@@ -119,8 +114,7 @@ pub extern "C" fn rpeltp_encode_alaw(
 }
 
 // 76 codewords to 160 octets of A-law.
-#[unsafe(no_mangle)]
-pub extern "C" fn rpeltp_decode_alaw(
+pub fn rpeltp_decode_alaw(
     state: Decoder,
     codewords: &[i16],
     octets: &mut [u8],
@@ -131,16 +125,14 @@ pub extern "C" fn rpeltp_decode_alaw(
 }
 
 // 76 codewords to 33 bytes: the refusal number, which is 0 where nothing is refused.
-#[unsafe(no_mangle)]
-pub extern "C" fn rpeltp_pack(codewords: &[i16], bytes: &mut [u8]) -> u16
+pub fn rpeltp_pack(codewords: &[i16], bytes: &mut [u8]) -> u16
     ensures { Packs codewords.now bytes.old result bytes.new }
 {
     packing::pack(codewords, bytes) as u16
 }
 
 // 33 bytes to 76 codewords: the refusal number, which is 0 where nothing is refused.
-#[unsafe(no_mangle)]
-pub extern "C" fn rpeltp_unpack(bytes: &[u8], codewords: &mut [i16]) -> u16
+pub fn rpeltp_unpack(bytes: &[u8], codewords: &mut [i16]) -> u16
     ensures { Unpacks bytes.now codewords.old result codewords.new }
 {
     packing::unpack(bytes, codewords) as u16

@@ -7,7 +7,7 @@ ghost use Rattle.decode_alaw.specs.Frame.{decoded};
 use decoder::Decoder;
 
 // The decoder after a turn, how many bytes of a frame that is not whole yet are kept, and whether there may be more.
-#[derive(Drop)]
+#[derive(Clone, Copy)]
 struct After {
     state: Decoder,
     there: usize,

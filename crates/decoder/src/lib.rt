@@ -12,7 +12,7 @@ use short_synthesis::Cells;
 // 4.3: what is kept for the next frame. drp holds the residual's last 120 samples, the oldest first; nrp is the
 // remembered lag. A caller in C has the same struct.
 #[repr(C)]
-#[derive(Drop)]
+#[derive(Clone, Copy)]
 pub struct Decoder {
     pub drp: [i16; 120],
     pub nrp: i16,
@@ -24,7 +24,7 @@ pub struct Decoder {
 // The answer: the state for the next call, and the refusal number, which is 0 where nothing is refused. A caller in C
 // has the same struct: 278 bytes, no padding.
 #[repr(C)]
-#[derive(Drop)]
+#[derive(Clone, Copy)]
 pub struct Decoded {
     pub state: Decoder,
     pub number: u16,

@@ -7,7 +7,7 @@ ghost use Rattle.encode.specs.Frame.{encoded};
 use encoder::Encoder;
 
 // The encoder after a turn, how many bytes of a frame that is not whole yet are kept, and whether there may be more.
-#[derive(Drop)]
+#[derive(Clone, Copy)]
 struct After {
     state: Encoder,
     there: usize,

@@ -20,7 +20,7 @@ use pre_processing::Kept;
 // 4.2: what is kept for the next frame. dp holds the residual's last 120 samples, the oldest first. A caller in C has
 // the same struct: the widest value stands first, so that it has no padding.
 #[repr(C)]
-#[derive(Drop)]
+#[derive(Clone, Copy)]
 pub struct Encoder {
     pub l_z2: i32,
     pub z1: i16,
@@ -31,7 +31,7 @@ pub struct Encoder {
 }
 
 // 4.2.5: how the recursion ended (house rules, 'Endings'); absent where encode refuses.
-#[derive(Drop)]
+#[derive(Clone, Copy)]
 pub enum Ending {
     Absent,
     Silent,
@@ -41,7 +41,7 @@ pub enum Ending {
 
 // Whether a lag was found, or is the lag 40 that the search started with (house rules, 'Marks'); absent where encode
 // refuses.
-#[derive(Drop)]
+#[derive(Clone, Copy)]
 pub enum Mark {
     Absent,
     Rule,
@@ -49,7 +49,7 @@ pub enum Mark {
 }
 
 // The marks of the four sub-frames.
-#[derive(Drop)]
+#[derive(Clone, Copy)]
 pub struct Marks {
     pub first: Mark,
     pub second: Mark,
@@ -59,7 +59,7 @@ pub struct Marks {
 
 // The answer: the refusal number, which is 0 where nothing is refused; the state for the next call; the ending and the
 // marks.
-#[derive(Drop)]
+#[derive(Clone, Copy)]
 pub struct Encoded {
     pub number: u8,
     pub state: Encoder,
@@ -68,7 +68,7 @@ pub struct Encoded {
 }
 
 // What a frame gives beside its codewords.
-#[derive(Drop)]
+#[derive(Clone, Copy)]
 struct Coded {
     state: Encoder,
     ending: Ending,

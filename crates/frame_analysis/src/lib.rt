@@ -13,7 +13,7 @@ use lpc_reflection::Ending;
 use pre_processing::Kept;
 
 // What the filters keep for the next frame: larpp are the decoded ratios, u the cells of the lattice.
-#[derive(Drop)]
+#[derive(Clone, Copy)]
 pub struct Filters {
     pub z1: i16,
     pub l_z2: i32,
@@ -23,7 +23,7 @@ pub struct Filters {
 }
 
 // The results of a frame, except d.
-#[derive(Drop)]
+#[derive(Clone, Copy)]
 pub struct Analysed {
     pub next: Filters,
     pub larc: [i16; 8],
@@ -31,7 +31,7 @@ pub struct Analysed {
 }
 
 // The codes of the ratios, and how the recursion that led to them ended.
-#[derive(Drop)]
+#[derive(Clone, Copy)]
 struct Ratios {
     larc: [i16; 8],
     ending: Ending,

@@ -1,4 +1,6 @@
 // House rules, 'Samples and codewords': the fields of the 76 codewords, and the valid bits of a received one.
+#![tactic(auto)]
+
 ghost use Rattle.std.specs.Prelude.{◌≡◌, ◌≤◌, length, get_or};
 ghost use mathlib.Core.List.{zip_with};
 ghost use Rattle.math_lists.specs.Every.{every};

@@ -24,7 +24,7 @@ fn written(lag: i16, bc: i16, mc: i16, xmaxc: i16, xmc: [i16; 13], c: &mut [i16]
 }
 
 // 4.2.14, 4.2.15: the grid, the block amplitude's code and those of the pulses.
-#[derive(Drop)]
+#[derive(Clone, Copy)]
 struct Choice {
     mc: usize,
     xmaxc: i16,

@@ -1,36 +1,46 @@
-// Standard input, for the programs, and what is reported on standard error. No promise can say what a read gives or
-// whether a write succeeds.
-ghost use Rattle.std.specs.Prelude.{◌≡◌, not, ◌&&◌, ◌++◌, ◌-◌, ◌/◌, ◌≤◌, ◌<◌, min, leb, length, take, drop};
+// Standard input, for the programs, and what is reported on standard error. No promise can say what standard input
+// gives or whether a write succeeds.
+#![tactic(auto)]
+
+ghost use Rattle.std.specs.Prelude.{◌≡◌, false, not, ◌&&◌, ◌++◌, ◌-◌, ◌/◌, ◌≤◌, ◌<◌, min, leb, length, take, drop, slice_range};
+ghost use Rattle.std.specs.Io.KnownBytes.{Consumes, IsAtEnd};
 ghost use Rattle.io_streams.specs.Promise.{Gathered};
+
+use std::io::Read;
 
 // How many bytes the buffer holds after reading; and whether a read failed. A failure is told only where there are
 // fewer bytes than were wanted.
-#[derive(Drop)]
+#[derive(Clone, Copy)]
 pub struct Filled {
     pub count: usize,
     pub failed: bool,
 }
 
 // One read. It gives no byte at the end of the input.
-fn read(room: &mut [u8]) -> Filled
-    ensures { result.count ≤ length room.new }
+fn read<R: Read>(input: &mut R, room: &mut [u8]) -> Filled
+    ensures room { result.count ≤ length room.new }
+    ensures taken { Consumes (R.remaining input.old) (R.remaining input.new) (take result.count room.new) }
+    ensures ended { result.count ≡ 0 → result.failed ≡ false → 0 < length room.new → IsAtEnd (R.remaining input.new) }
 {
-    let got = libc::read(0, room);
+    let got = input.read(room);
+    let failed = got.is_err();
     Filled {
-        count: io::count(got, room),
-        failed: got < 0,
+        count: got.unwrap_or(0),
+        failed: failed,
     }
 }
 
 // Reads behind the bytes that are there, as much as each read gives, until there are at least `least` bytes, the input
 // ends or a read fails. A pipe gives its bytes in pieces; a piece that has come does not wait until the buffer is full.
-pub fn gather(there: usize, least: usize, room: &mut [u8]) -> Filled
+pub fn gather<R: Read>(input: &mut R, there: usize, least: usize, room: &mut [u8]) -> Filled
     requires { (there ≤ length room.old) × (least ≤ length room.old) }
-    ensures { Gathered there least room.old result room.new }
+    ensures gathered { Gathered there least room.old result room.new }
+    ensures taken { Consumes (R.remaining input.old) (R.remaining input.new) (slice_range room.new there result.count) }
+    ensures ended { result.count < least → result.failed ≡ false → IsAtEnd (R.remaining input.new) }
 {
     let mut done = there;
     while done < least {
-        let more = read(&mut room[done..]);
+        let more = read(input, &mut room[done..]);
         if more.count == 0 {
             return Filled {
                 count: done,
@@ -69,45 +79,43 @@ pub fn keep(from: usize, count: usize, room: &mut [u8]) -> usize
 }
 
 // Whether reading succeeded. A failure is reported on standard error.
-pub fn readable(got: Filled) -> bool
+pub fn readable(rt: &impl Eprint, got: Filled) -> bool
     ensures { result ≡ not got.failed }
 {
     if got.failed {
-        io::write_all(2, b"standard input cannot be read\n");
+        let _ = eprintln!(rt; "standard input cannot be read");
     }
     !got.failed
 }
 
-// Reports on standard error how many bytes there are, where they are too few for a frame. The toolchain's printers
-// take 64 bits, and none takes fewer: so the count is cast.
-fn say_rest(count: usize, size: usize) {
+// Reports on standard error how many bytes there are, where they are too few for a frame.
+fn say_rest(rt: &impl Eprint, count: usize, size: usize) {
     if 0 < count {
         if count < size {
-            io::print_decimal(2, count as u64);
-            io::write_all(2, b" bytes are left over, less than a frame: not coded\n");
+            let _ = eprintln!(rt; "{count} bytes are left over, less than a frame: not coded");
         }
     }
 }
 
 // Whether there is at least one frame of `size` bytes. A failed read, and bytes that are too few, are reported on
 // standard error.
-pub fn whole(got: Filled, size: usize) -> bool
+pub fn whole(rt: &impl Eprint, got: Filled, size: usize) -> bool
     ensures { result ≡ (not got.failed && leb size got.count) }
 {
-    if readable(got) {
-        say_rest(got.count, size);
+    if readable(rt, got) {
+        say_rest(rt, got.count, size);
         return size <= got.count;
     }
     false
 }
 
 // Whether a write succeeded: `out`, as it is passed in. A failure is reported on standard error.
-pub fn written(out: bool) -> bool
+pub fn written(rt: &impl Eprint, out: bool) -> bool
     ensures { result ≡ out }
 {
     if out {
         return true;
     }
-    io::write_all(2, b"standard output cannot be written\n");
+    let _ = eprintln!(rt; "standard output cannot be written");
     false
 }

@@ -10,14 +10,14 @@ ghost use Rattle.list_frames.specs.Promise.{state, Lists};
 use encoder::Encoder;
 
 // What is kept from frame to frame: how many are listed, and the encoder.
-#[derive(Drop)]
+#[derive(Clone, Copy)]
 pub struct Lister {
     pub frames: u32,
     pub encoder: Encoder,
 }
 
 // The lister after a frame, and the length of the text of the frame's lines.
-#[derive(Drop)]
+#[derive(Clone, Copy)]
 pub struct Listed {
     pub state: Lister,
     pub length: usize,

@@ -8,14 +8,14 @@ ghost use Rattle.lister.specs.Turn.{Turned};
 use list_frames::Lister;
 
 // The lister after some frames, and the index where their text ends.
-#[derive(Drop)]
+#[derive(Clone, Copy)]
 struct Text {
     state: Lister,
     end: usize,
 }
 
 // The lister after a turn, how many bytes that are not listed yet are kept, and whether there may be more.
-#[derive(Drop)]
+#[derive(Clone, Copy)]
 struct After {
     state: Lister,
     there: usize,

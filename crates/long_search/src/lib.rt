@@ -1,5 +1,7 @@
 // 4.2.11: the lag and its gain code. The 81 sums and the power never saturate (house rules, 'Six sums' (c) and (d)), so
 // they are plain additions.
+#![tactic(auto)]
+
 ghost use Rattle.std.specs.Prelude.{◌≡◌, true, map, ◌+◌, ◌≤◌, pos, length};
 ghost use Rattle.std.specs.Int.Signed.{lt_z};
 ghost use Rattle.std.specs.Int.{w16};
@@ -15,7 +17,7 @@ use op_sums::Found;
 
 // What the search found: the lag, its sum before the rescaling, and whether any sum was above 0. If none was, the lag
 // is 40, where the search starts.
-#[derive(Drop)]
+#[derive(Clone, Copy)]
 pub struct Search {
     pub lag: usize,
     pub sum: i32,
@@ -23,7 +25,7 @@ pub struct Search {
 }
 
 // The search, and the gain code at its lag.
-#[derive(Drop)]
+#[derive(Clone, Copy)]
 pub struct Parameters {
     pub search: Search,
     pub bc: usize,

@@ -1,5 +1,5 @@
 -- 4.2.4 in blocks of 32: with eight zeros before the samples, each of the nine sums goes over all 160, and is the sum of five blocks.
-use Rattle.std.specs.Prelude.{ℕ, ◌+◌, ◌*◌, ◌-◌, ◌≤◌, ◌<◌, ◌≡◌, refl, true, List, ◌++◌, ℤ, pos, ◌+ℤ◌, ◌*ℤ◌, nat_abs, length, take, drop, replicate}
+use Rattle.std.specs.Prelude.{ℕ, ◌+◌, ◌-◌, ◌≤◌, ◌<◌, ◌≡◌, refl, true, List, ◌++◌, ℤ, pos, ◌+ℤ◌, ◌*ℤ◌, nat_abs, length, take, drop, replicate}
 use Rattle.std.proofs.Common.{sym, ap, ◌∙◌, append_assoc, arith, length-take, length-drop, length-append, take_all, take_at, drop_at, drop-drop, length-take-le, SFits, leb-true}
 use Rattle.std.proofs.lemmas.List.{length-replicate, get_or-replicate, replicate-append-replicate}
 use Rattle.std.specs.Int.{w32}

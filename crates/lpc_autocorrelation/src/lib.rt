@@ -1,5 +1,7 @@
 // 4.2.4: scaling, the nine sums, and the scaling back. The sums never saturate (house rules, 'Six sums' (b)), so they
 // are plain additions.
+#![tactic(auto)]
+
 ghost use Rattle.std.specs.Prelude.{◌≡◌, true, ◌≤◌, length};
 ghost use Rattle.math_lists.specs.Every.{every};
 ghost use Rattle.standard.specs.Lpc.{scalauto, scaled, rescaled, L_ACF};

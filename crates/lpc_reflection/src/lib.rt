@@ -7,7 +7,7 @@ ghost use Rattle.law_loops.specs.Recursion.{PK_loop, K_start};
 ghost use Rattle.lpc_reflection.specs.Promise.{ended};
 
 // How the recursion ended: not started, because the first sum is 0; stopped at step 1 to 8; or all steps done.
-#[derive(Drop)]
+#[derive(Clone, Copy)]
 pub enum Ending {
     Silent,
     Stopped(u8),
@@ -15,14 +15,14 @@ pub enum Ending {
 }
 
 // r[1..8] and the ending.
-#[derive(Drop)]
+#[derive(Clone, Copy)]
 pub struct Reflection {
     pub r: [i16; 8],
     pub ending: Ending,
 }
 
 // The two arrays of the recursion, P[0..8] and K[0..8]. K[0] and K[1] are never read.
-#[derive(Drop)]
+#[derive(Clone, Copy)]
 struct Arrays {
     p: [i16; 9],
     k: [i16; 9],

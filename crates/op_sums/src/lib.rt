@@ -7,7 +7,7 @@ ghost use Rattle.op_sums.specs.Room.{Headroom};
 ghost use Rattle.op_sums.specs.Search.{chosen, best_of};
 
 // The best index so far, and its sum.
-#[derive(Drop)]
+#[derive(Clone, Copy)]
 pub struct Found {
     pub at: usize,
     pub sum: i32,

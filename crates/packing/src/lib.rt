@@ -25,7 +25,7 @@ fn above(low: u32, n: u16, high: u32) -> u32
 
 // The bits between the fields and the bytes, the next one lowest: the number that they make, how many they are, and
 // which byte is next.
-#[derive(Drop)]
+#[derive(Clone, Copy)]
 struct Queue {
     waiting: u32,
     have: u16,

@@ -12,7 +12,7 @@ ghost use Rattle.law_soundness.specs.Offset.{sound_offset};
 ghost use Rattle.pre_processing.specs.Promise.{kept};
 
 // 4.2.2: z1 and L_z2, which are kept for the next sample and the next frame.
-#[derive(Drop)]
+#[derive(Clone, Copy)]
 pub struct Kept {
     pub z1: i16,
     pub l_z2: i32,

@@ -72,7 +72,7 @@ exp_range code h =
 -- k less the exponent that was returned, as the code has it: for k = 6 temp1 of 4.2.15 and temp2 of 4.2.16
 module _ (code e : ℤ) (h : fit 6 code ≡ true) (s : e ≡ (amplitude code).exp) (k : ℕ) (l : T (leb k 8)) where
   held : mem w16 e ≡ (amplitude code).exp
-  held = rw s (back (omega (zar, apart (amplitude code).exp, exp_range code h)))
+  held = rw s (back {w = w16} (omega (zar, apart (amplitude code).exp, exp_range code h)))
 
   pub gap_fits : SFits w16 (pos k -ℤ mem w16 e)
   gap_fits = rw held (omega (zar, exp_range code h, minus_is (pos k) (amplitude code).exp, leb→le k 8 l))

@@ -1,5 +1,7 @@
 // 4.2.15, APCM quantization of the selected RPE sequence: the code of the block amplitude, its exponent and mantissa,
 // and the codes of the thirteen pulses.
+#![tactic(auto)]
+
 ghost use Rattle.std.specs.Prelude.{◌≡◌, true, suc, ◌*◌, ◌^◌, ◌≤◌, leb, pos};
 ghost use Rattle.std.specs.Int.Signed.{le_z, shr_z};
 ghost use Rattle.std.specs.Int.{w16};
@@ -40,7 +42,7 @@ pub fn xmaxc(xmax: i16) -> i16
 }
 
 // The decoded block amplitude: exponent from -4 to 6, mantissa from 0 to 7.
-#[derive(Drop)]
+#[derive(Clone, Copy)]
 pub struct Amplitude {
     pub exp: i16,
     pub mant: i16,

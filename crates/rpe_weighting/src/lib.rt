@@ -1,5 +1,7 @@
 // 4.2.13, 4.2.14: the weighting filter and the choice of the grid. The filter's sum and a grid's energy never saturate
 // (house rules, 'Six sums' (e) and (f)), so they are plain additions. The filter's two doublings can saturate.
+#![tactic(auto)]
+
 ghost use Rattle.std.specs.Prelude.{◌≡◌, true, ◌++◌, ◌*◌, ◌≤◌, pos, ◌+ℤ◌, ◌*ℤ◌, nat_abs, length, replicate};
 ghost use Rattle.math_lists.specs.Every.{every};
 ghost use Rattle.standard.specs.Rpe.{filtered, weighted, grid, Mc};
@@ -78,7 +80,7 @@ fn squares(x: [i16; 40]) -> [i32; 40]
 }
 
 // The sums of the squares on grids 0, 1 and 2.
-#[derive(Drop)]
+#[derive(Clone, Copy)]
 struct Energies {
     first: i32,
     second: i32,

@@ -109,7 +109,7 @@ each_yes p l h =
 
 -- a word is what it gives back
 pub word_back : (z : ℤ) → word z ≡ true → mem w32 z ≡ z
-word_back z h = back (wide (word_is z h) tt)
+word_back z h = back {w = w32} (wide (word_is z h) tt)
 
 -- and is one still
 pub local_word : (z : ℤ) → word z ≡ true → word (mem w32 z) ≡ true
@@ -117,14 +117,14 @@ local_word z h = rw (word_back z h) h
 
 -- so it is with a factor
 pub factor_back : (z : ℤ) → factor z ≡ true → mem w32 z ≡ z
-factor_back z h = back (wide (factor_is z h) tt)
+factor_back z h = back {w = w32} (wide (factor_is z h) tt)
 
 pub local_factor : (z : ℤ) → factor z ≡ true → factor (mem w32 z) ≡ true
 local_factor z h = rw (factor_back z h) h
 
 -- and a word that was cast is given back
 pub widened : (z : ℤ) → SFits w16 z → mem w32 (mem w16 z) ≡ z
-widened z f = rw (back f) (back (wide f tt))
+widened z f = rw (back f) (back {w = w32} (wide f tt))
 
 -- which such a local holds
 pub widened_fits : (z : ℤ) → SFits w16 z → SFits w32 (mem w16 z)
@@ -146,8 +146,8 @@ passed_word {r} {v} {s} {o} p =
 -- through locals, which give back r, v and sri as mr, mv and ms, and then o and a
 pub passed : {r v s mr mv ms o a : ℤ} → mr ≡ r → mv ≡ v → ms ≡ s → Passed mr mv ms o a → Passed r v s (mem w32 o) (mem w32 a)
 passed {mr = mr} {mv = mv} {ms = ms} {o = o} {a = a} er ev es p =
-    let eo : mem w32 o ≡ o = rw p.out (back (wide (minus_fits w16 ms (mult_r mr mv)) tt)) in
-    let ea : mem w32 a ≡ a = rw p.above (back (wide (plus_fits w16 mv (mult_r mr o)) tt)) in
+    let eo : mem w32 o ≡ o = rw p.out (back {w = w32} (wide (minus_fits w16 ms (mult_r mr mv)) tt)) in
+    let ea : mem w32 a ≡ a = rw p.above (back {w = w32} (wide (plus_fits w16 mv (mult_r mr o)) tt)) in
     rw (eo, ea, ← er, ← ev, ← es) p
 
 -- the eight, the last first, give the cells of the definition

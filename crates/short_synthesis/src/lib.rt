@@ -14,7 +14,7 @@ ghost use Rattle.short_synthesis.specs.Lattice.{cells, lined, Each, Passed};
 ghost use Rattle.short_synthesis.specs.Biased.{low, lifted, base, offset};
 
 // Eight cells v[0..7], or the eight coefficients that go with them. As fields they stay in the machine's registers.
-#[derive(Drop)]
+#[derive(Clone, Copy)]
 struct Line {
     v0: i32,
     v1: i32,
@@ -90,7 +90,7 @@ fn clipped(z: i32) -> i32
 }
 
 // A section: sri after it, and the cell above its own.
-#[derive(Drop)]
+#[derive(Clone, Copy)]
 struct Section {
     out: i32,
     above: i32,
@@ -239,7 +239,7 @@ fn entering(rrp: i32, c: i32, v: i32, wt: i32) -> i32
 
 // A section by plain sums: sri after it, the cell above its own, and whether every sum so far is a word. If so, no sum
 // would have saturated, and this is the section as 4.3.4 has it (`Passed`).
-#[derive(Drop)]
+#[derive(Clone, Copy)]
 struct Attempt {
     out: i32,
     above: i32,
@@ -295,7 +295,7 @@ fn tried(rrp: i32, c: i32, v: i32, sri: Attempt) -> Attempt
 }
 
 // One sample by plain sums: the cells after it, where every section fits.
-#[derive(Drop)]
+#[derive(Clone, Copy)]
 struct Sample {
     line: Line,
     fits: bool,
@@ -376,7 +376,7 @@ fn upscaled(sro: i16) -> i16
 }
 
 // What is carried from sample to sample: the lattice's eight cells and the de-emphasis' last output.
-#[derive(Drop)]
+#[derive(Clone, Copy)]
 pub struct Cells {
     pub v: [i16; 8],
     pub msr: i16,

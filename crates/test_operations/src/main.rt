@@ -36,7 +36,7 @@ const COUNTS: [i16; 20] = [
 ];
 
 // What takes one line: the arguments themselves, and the operations on one argument.
-#[derive(Drop)]
+#[derive(Clone, Copy)]
 enum List {
     Words,
     Longs,
@@ -48,7 +48,7 @@ enum List {
 }
 
 // What takes a line for each first argument: the operations on two, and A-law, which goes through all its arguments.
-#[derive(Drop)]
+#[derive(Clone, Copy)]
 enum Table {
     Add,
     Sub,

@@ -9,7 +9,7 @@ use decoder::{Decoded, Decoder};
 use encoder::Encoder;
 
 // Both ends.
-#[derive(Drop)]
+#[derive(Clone, Copy)]
 struct Pair {
     encoder: Encoder,
     decoder: Decoder,
@@ -17,7 +17,7 @@ struct Pair {
 
 // What can be wrong with a frame: a call refused it, a codeword does not fit, a lag is out of range, or the two ends
 // differ in the history or in the ratios.
-#[derive(Drop)]
+#[derive(Clone, Copy)]
 struct Faults {
     refused: bool,
     field: bool,
@@ -27,7 +27,7 @@ struct Faults {
 }
 
 // The first fault, or none.
-#[derive(Drop)]
+#[derive(Clone, Copy)]
 enum Verdict {
     Refused,
     Field,
@@ -38,7 +38,7 @@ enum Verdict {
 }
 
 // The outcome of a frame.
-#[derive(Drop)]
+#[derive(Clone, Copy)]
 struct Outcome {
     pair: Pair,
     stray: bool,
@@ -46,7 +46,7 @@ struct Outcome {
 }
 
 // Both ends after a number of frames, and how many of these frames had a fault.
-#[derive(Drop)]
+#[derive(Clone, Copy)]
 struct Tally {
     pair: Pair,
     frames: u32,
@@ -54,14 +54,14 @@ struct Tally {
 }
 
 // The same, and the index where the frames' lines end.
-#[derive(Drop)]
+#[derive(Clone, Copy)]
 struct Lines {
     tally: Tally,
     end: usize,
 }
 
 // The same after a turn, how many bytes of a frame that is not whole yet are kept, and whether there may be more.
-#[derive(Drop)]
+#[derive(Clone, Copy)]
 struct After {
     tally: Tally,
     there: usize,

@@ -22,10 +22,10 @@ ratios : (c : After-larc_fits)
 ratios c = rw c.larc_fits.ensures (fits_ratios c.args.c.now)
 
 pub returns-then-not-larc_fits : goal.returns-then-not-larc_fits
-returns-then-not-larc_fits c = sym (rw (not-true c.larc_fits.result c.if-not-larc_fits.true-raw) at (ratios c.before))
+returns-then-not-larc_fits c = sym (rw (c.if-not-larc_fits.true) at (ratios c.before))
 
 pub loop-j-init : goal.loop-j-init
-loop-j-init c = (omega arith, sym (rw (not-false c.larc_fits.result c.if-not-larc_fits.false-raw) at (ratios c.before)))
+loop-j-init c = (omega arith, sym (rw (c.if-not-larc_fits.false) at (ratios c.before)))
 
 -- the part that is passed has 17 codewords
 size : (j : ℕ) → 8 + 17 * j + 17 - (8 + 17 * j) ≡ 17
@@ -49,10 +49,10 @@ turn c =
     rw (rw (size j) at c.sub_fits.ensures) (sym l.loop-j.invariant.1 ∙ fits_sub j xs (omega arith))
 
 pub returns-then-not-sub_fits : goal.returns-then-not-sub_fits
-returns-then-not-sub_fits c = sym (rw (not-true c.sub_fits.result c.if-not-sub_fits.true-raw) at (turn c.before))
+returns-then-not-sub_fits c = sym (rw (c.if-not-sub_fits.true) at (turn c.before))
 
 pub loop-j-preserved : goal.loop-j-preserved
-loop-j-preserved c = (search rules, sym (rw (not-false c.sub_fits.result c.if-not-sub_fits.false-raw) at (turn c.before)))
+loop-j-preserved c = (search rules, sym (rw (c.if-not-sub_fits.false) at (turn c.before)))
 
 pub returns : goal.returns
 returns c =

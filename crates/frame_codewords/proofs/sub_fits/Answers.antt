@@ -2,27 +2,27 @@
 use Prim.Native.Nat.{◌-◌}
 use mathlib.Core.Path.{refl, ◌∙◌}
 use mathlib.Core.Bool.{and-true, and-false}
-use mathlib.Core.Logic.{⊎_elim}
 use native.Mathlib.Omega.{arith}
 use borrow.Author.Rules.{rules, sfits_of}
 use borrow.Author.Tests.{not-true, not-false}
 use Rattle.math_integers.specs.Ranges.{back}
+use mir.Syntax.{w16}
 use Rattle.standard.specs.Frame.{sub_widths}
 use Rattle.frame_codewords.specs.Fitting.{Fitting, fitting_start, fitting_next, fitting_end}
 use Rattle.frame_codewords.specs.Widths.{sub_most}
 use Rattle.frame_codewords.proofs.sub_fits.Goals as goal
+use Rattle.frame_codewords.proofs.sub_fits.Goals.{then-not-fit, else-not-fit}
 
 pub loop-i-preserved : goal.loop-i-preserved
 unfolding sub_widths
 loop-i-preserved c =
     let t = c.before in
-    let k = t in
-    fitting_next 17 sub_widths _ refl k.requires k.loop-i.invariant (omega arith)
-    t.sub_width.ensures (back (sfits_of t.fit-arg-1.given)) t.fit.ensures
-    (⊎_elim
-    (λ w. w.1 ∙ rw (not-true t.fit.result w.0.taken, and-false))
-    (λ w. w.1 ∙ rw (not-false t.fit.result w.0.left, and-true))
-    c.if-not-fit.branch)
+    fitting_next 17 sub_widths _ refl t.requires t.loop-i.invariant (omega arith)
+    t.sub_width.ensures (back {w = w16} (sfits_of t.fit-arg-1.given)) t.fit.ensures
+    (elim c.if-not-fit.branch [
+      | then-not-fit w ↦ w.all-is ∙ rw (w.if-not-fit.true, and-false)
+      | else-not-fit w ↦ w.all-is ∙ rw (w.if-not-fit.false, and-true)
+    ])
 
 pub loop-i-init : goal.loop-i-init
 unfolding sub_widths

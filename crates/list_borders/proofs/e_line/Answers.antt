@@ -11,22 +11,22 @@ use Rattle.list_borders.proofs.e_line.Goals as goal
 
 pub returns-then-bytes-gt320000000 : goal.returns-then-bytes-gt320000000
 unfolding text
-returns-then-bytes-gt320000000 c =
-    let s = c in
-    rw (E_limit s.args.bytes (omega arith)) (c.text.ensures.puts, omega (arith, c.text.ensures.puts.place))
+returns-then-bytes-gt320000000 c = record {
+  puts = rw (E_limit c.args.bytes (omega arith)) c.text.ensures.puts;
+  room = omega (arith, c.text.ensures.puts.place);
+}
 
 pub returns : goal.returns
 unfolding text
 returns c =
-    let t₃ = c.before.before.before in
-    let t₂ = t₃.before.before in
-    let t₁ = t₂.before.before in
-    let t₀ = t₁.before.before in
-    let s = t₀ in
-    let p₀ = t₀.text-name.ensures.puts in
-    let p₁ = puts_then p₀ (omega (arith, p₀.place)) t₁.field-frames.ensures.puts in
-    let p₂ = puts_then p₁ (omega (arith, p₀.place, t₁.field-frames.ensures.room)) t₂.field-samples.ensures.puts in
-    let p₃ = puts_then p₂ (omega (arith, p₀.place, t₁.field-frames.ensures.room, t₂.field-samples.ensures.room)) t₃.field-rest.ensures.puts in
-    let r₃ : t₃.field-rest.result ≤ 25 = omega (arith, p₀.place, t₁.field-frames.ensures.room, t₂.field-samples.ensures.room, t₃.field-rest.ensures.room) in
-    rw (E_end s.args.bytes (omega arith))
-    (puts_then p₃ (omega (arith, r₃)) c.text-2.ensures.puts, omega (arith, r₃, c.text-2.ensures.puts.place))
+    let p₀ = c.text-name.ensures.puts in
+    let r₁ = c.field-frames.ensures.room in
+    let r₂ = c.field-samples.ensures.room in
+    let r₃ : c.field-rest.result ≤ 25 = omega (arith, p₀.place, r₁, r₂, c.field-rest.ensures.room) in
+    let p₁ = puts_then p₀ (omega (arith, p₀.place)) c.field-frames.ensures.puts in
+    let p₂ = puts_then p₁ (omega (arith, p₀.place, r₁)) c.field-samples.ensures.puts in
+    let p₃ = puts_then p₂ (omega (arith, p₀.place, r₁, r₂)) c.field-rest.ensures.puts in
+    record {
+      puts = rw (E_end c.args.bytes (omega arith)) (puts_then p₃ (omega (arith, r₃)) c.text-2.ensures.puts);
+      room = omega (arith, r₃, c.text-2.ensures.puts.place);
+    }

@@ -7,4 +7,4 @@ use Rattle.list_borders.proofs.header.Goals as goal
 
 pub returns : goal.returns
 unfolding text
-returns c = rw header_is (c.text.ensures.puts, omega (arith, c.text.ensures.puts.place))
+returns c = record { puts = rw header_is c.text.ensures.puts; room = omega (arith, c.text.ensures.puts.place) }

@@ -3,7 +3,6 @@ use mathlib.Core.Path.{◌≡◌, ap, ap₂, ◌∙◌}
 use mathlib.Core.Bool.{true, false}
 use lib.IntN.{pos}
 use lib.Signed.{le_z}
-use borrow.Author.Rules.{rules}
 use Rattle.math_integers.specs.Halves.{zar, know}
 use Rattle.math_integers.specs.Ranges.{back, res}
 use Rattle.standard.specs.Arithmetic.{norm}

@@ -117,7 +117,11 @@ returns c =
     let a = c.before.before.before.before in
     let e = found-is a in
     let f : SFits w32 a.loop-i.found.sum = search rules in
-    (ap (λ (b : Best). 40 + b.at) e, (back f ∙ ap (λ (b : Best). b.sum) e, rw (back f) (ap (λ (b : Best). lt_z (pos 0) b.sum) e)))
+    record {
+      lag = ap (λ (b : Best). 40 + b.at) e;
+      sum = back {w = w32} f ∙ ap (λ (b : Best). b.sum) e;
+      positive = rw (back {w = w32} f) (ap (λ (b : Best). lt_z (pos 0) b.sum) e);
+    }
 
 pub lasts-last-requires : goal.lasts-last-requires
 lasts-last-requires c = let ((m, n), small) = c.requires in ((m, n), (small, c.each_a_word.ensures))

@@ -1,5 +1,5 @@
 -- Iteration j stores the sum of the last 8 products for the 40 that start at index j.
-use Prim.Native.Nat.{ℕ, ◌+◌, ◌-◌, ◌≤◌}
+use Prim.Native.Nat.{ℕ, ◌+◌, ◌-◌}
 use mathlib.Core.Path.{◌≡◌, refl, sym, ap, ◌∙◌}
 use mathlib.Core.List.{List}
 use native.Mathlib.Omega.{arith}
@@ -7,7 +7,7 @@ use lib.IntN.{ℤ, pos}
 use lib.ListN.{length, take, drop, length-set, replicate}
 use borrow.Author.Rules.{rules}
 use Rattle.math_integers.specs.Ranges.{res}
-use Rattle.math_lists.specs.Fill.{filled, fill_next, fill_end}
+use Rattle.math_lists.specs.Fill.{fill_next, fill_end}
 use Rattle.math_lists.specs.Tab.{tab_length, tab_at_zero}
 use Rattle.standard.specs.Arithmetic.{L_sum}
 use Rattle.long_search.specs.Search.{lasts, last_at, part_room}

@@ -3,10 +3,8 @@ use mathlib.Core.Path.{◌≡◌, ap₂, ◌∙◌}
 use mathlib.Core.Bool.{true, false}
 use lib.Signed.{le_z}
 use mir.Syntax.{w16}
-use borrow.Author.Rules.{rules}
 use Rattle.math_integers.specs.Halves.{zar, mem}
 use Rattle.math_integers.specs.Ranges.{back, res}
-use Rattle.math_integers.specs.Needs.{by_4}
 use Rattle.math_lists.specs.First.{first}
 use Rattle.standard.specs.Arithmetic.{mult}
 use Rattle.standard.specs.LongTerm.{gain_level}

@@ -1,9 +1,7 @@
 -- The power at the lag is the sum of squares of the 40 samples of dp at the lag, which `l_squares` promises.
 use mathlib.Core.Path.{refl, ap, ◌∙◌}
 use native.Mathlib.Omega.{arith}
-use borrow.Author.Rules.{rules}
 use Rattle.math_integers.specs.Ranges.{res}
-use Rattle.math_integers.specs.Needs.{by_4}
 use Rattle.standard.specs.Arithmetic.{L_squares}
 use Rattle.standard.specs.LongTerm.{L_power}
 use Rattle.long_search.specs.Search.{part_is}

@@ -2,12 +2,10 @@
 use Prim.Native.Nat.{◌*◌, ◌%◌}
 use mathlib.Core.Path.{◌≡◌, sym, ap, ◌∙◌}
 use mathlib.Core.Bool.{true, false, cond}
-use mathlib.Core.Logic.{⊎_elim}
 use lib.IntN.{ℤ, pos, nat_abs}
 use lib.Signed.{lt_z}
 use mir.Syntax.{w16, w32}
 use mir.Val.{of_z, to_z}
-use borrow.Author.Rules.{rules}
 use borrow.Author.Tests.{ne_eqb}
 use Rattle.math_integers.specs.Halves.{zar, mem, abs_is}
 use Rattle.math_integers.specs.Ranges.{zfits, res}
@@ -16,7 +14,7 @@ use Rattle.standard.specs.LongTerm.{scal}
 use Rattle.law_arithmetic.specs.Shift.{up_bits}
 use Rattle.long_search.specs.Bounds.{dmax_above}
 use Rattle.long_search.proofs.scal.Goals as goal
-use Rattle.long_search.proofs.scal.Goals.{After-peak-dmax, Else-dmax-eq0, Joined-dmax-eq0, Start, Then-dmax-eq0}
+use Rattle.long_search.proofs.scal.Goals.{After-peak-dmax, Else-dmax-eq0, Joined-dmax-eq0, Start, Then-dmax-eq0, then-dmax-eq0, else-dmax-eq0}
 
 abbrev dmax : Start → ℤ
 dmax s = peak s.args.d.now
@@ -48,10 +46,12 @@ norm-temp-requires c = rw (top-is c.before) (dmax_above _ (other c))
 -- temp in both cases
 temp-is : (c : Joined-dmax-eq0) → let x = dmax c.before.before in to_z w16 c.if-dmax-eq0.temp-bits ≡ cond (is_zero x) (pos 0) (norm (up w32 x 16))
 temp-is c =
-    ⊎_elim
-    (λ w. rw (w.1, zero (record { before = c.before; if1 = w.0 })))
-    (λ w. rw (w.2, other (record { before = c.before; if1 = w.0 })) (res w.1 ∙ (w.1.ensures ∙ ap norm (top-is c.before))))
-    c.if-dmax-eq0.branch
+    elim c.if-dmax-eq0.branch [
+      | then-dmax-eq0 w ↦ rw (w.temp-is, zero (record { before = c.before; if-dmax-eq0 = w.if-dmax-eq0 }))
+      | else-dmax-eq0 w ↦
+          rw (w.temp-is, other (record { before = c.before; if-dmax-eq0 = w.if-dmax-eq0 }))
+          (res w.norm-temp ∙ (w.norm-temp.ensures ∙ ap norm (top-is c.before)))
+    ]
 
 pub returns-then-temp-gt6 : goal.returns-then-temp-gt6
 unfolding scal

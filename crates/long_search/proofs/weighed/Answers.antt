@@ -1,5 +1,5 @@
 -- Iteration k stores sample k shifted by the scaling. Each is at most 512 in size, because dmax is (`scaled_small`).
-use Prim.Native.Nat.{ℕ, ◌-◌, ◌≤◌, ◌<◌}
+use Prim.Native.Nat.{◌<◌}
 use mathlib.Core.Path.{◌≡◌, refl, sym, ap₂, ◌∙◌}
 use native.Mathlib.Omega.{arith}
 use lib.IntN.{pos}
@@ -9,7 +9,7 @@ use mir.Val.{SFits}
 use borrow.Author.Count.{below_none, below_more}
 use borrow.Author.Rules.{rules, sfits_of}
 use Rattle.math_integers.specs.Ranges.{back, res}
-use Rattle.math_lists.specs.Fill.{filled, fill_next, fill_end}
+use Rattle.math_lists.specs.Fill.{fill_next, fill_end}
 use Rattle.math_lists.specs.Tab.{map_at}
 use Rattle.standard.specs.Arithmetic.{shr}
 use Rattle.standard.specs.Tables.{◌at◌}

@@ -8,10 +8,8 @@ use lib.IntN.{ℤ, pos, ◌+ℤ◌}
 use lib.ListN.{length, take, drop}
 use mir.Syntax.{w32}
 use mir.Val.{to_z}
-use borrow.Author.Rules.{rules}
 use Rattle.math_integers.specs.Halves.{mem}
 use Rattle.math_integers.specs.Ranges.{back, res}
-use Rattle.math_integers.specs.Needs.{by_4}
 use Rattle.math_lists.specs.Every.{every}
 use Rattle.standard.specs.Arithmetic.{L_sum}
 use Rattle.op_sums.specs.Room.{at_most}

@@ -1,5 +1,4 @@
 -- Iteration k stores the sum at distance k. With eight zeros before the samples each sum goes over all 160 (`upto_all`).
-use Prim.Native.Nat.{◌-◌, ◌≤◌}
 use mathlib.Core.Path.{◌≡◌, refl, ap, ◌∙◌}
 use mathlib.Core.List.{List}
 use native.Mathlib.Omega.{arith}
@@ -8,7 +7,7 @@ use lib.ListN.{length, take, replicate, length-set}
 use lib.Seq.{take_all}
 use borrow.Author.Rules.{rules}
 use Rattle.math_integers.specs.Ranges.{res}
-use Rattle.math_lists.specs.Fill.{filled, fill_next, fill_end}
+use Rattle.math_lists.specs.Fill.{fill_next, fill_end}
 use Rattle.standard.specs.Lpc.{L_ACF}
 use Rattle.law_lengths.specs.Analysis.{L_ACF_length}
 use Rattle.lpc_autocorrelation.specs.Blocks.{padded, padded_length, padded_small, upto, upto_all}
@@ -29,21 +28,20 @@ all-is c =
 
 pub at_distance-requires : goal.at_distance-requires
 at_distance-requires c =
-    let a = c.before.before.before.before in
-    let (l, h) = a.requires in
-    let s = a.args.s.now in
-    rw (all-is a) (padded_length s l h, (padded_small s l h, omega (arith, c.loop-k-test.true)))
+    let (l, h) = c.requires in
+    let s = c.args.s.now in
+    rw (all-is (goal.at.at_distance-requires c).After-padded-z)
+    (padded_length s l h, (padded_small s l h, omega (arith, c.loop-k-test.true)))
 
 pub loop-k-preserved : goal.loop-k-preserved
 loop-k-preserved c =
-    let t = c.before.before.before.before in
-    let s = t.args.s.now in
-    let k = t.loop.k in
-    let (l, h) = t.requires in
-    let sum = ap (λ (z : List ℤ). upto z k 160) (all-is t.before) ∙ upto_all s l h k (omega arith) in (
+    let s = c.args.s.now in
+    let k = c.loop-k.k in
+    let (l, h) = c.requires in
+    let sum = ap (λ (z : List ℤ). upto z k 160) (all-is (goal.at.loop-k-preserved c).After-padded-z) ∙ upto_all s l h k (omega arith) in (
       omega arith,
-      simp length-set t.loop.invariant.1,
-      fill_next (L_ACF s) (replicate 9 (pos 0)) k t.loop.invariant.2 (pos 0) (omega (arith, L_ACF_length s)) (omega arith)
+      simp length-set c.loop-k.invariant.1,
+      fill_next (L_ACF s) (replicate 9 (pos 0)) k c.loop-k.invariant.2 (pos 0) (omega (arith, L_ACF_length s)) (omega arith)
           (res c.at_distance ∙ (c.at_distance.ensures ∙ sum)),
     )
 

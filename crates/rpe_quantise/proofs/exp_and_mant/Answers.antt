@@ -1,9 +1,8 @@
 -- A code is from 0 to 63, so the exponent is at most 6 and the mantissa at most 15. No step leaves its range, and the result is the
 -- definition's.
-use Prim.Native.Nat.{ℕ, suc, ◌+◌, ◌*◌, ◌-◌, ◌/◌, ◌%◌, ◌^◌, ◌<◌, ◌≤◌}
+use Prim.Native.Nat.{ℕ, suc, ◌*◌, ◌-◌, ◌/◌, ◌%◌, ◌^◌, ◌<◌, ◌≤◌}
 use mathlib.Core.Path.{◌≡◌, refl, sym, ap, ◌∙◌}
 use mathlib.Core.Bool.{true}
-use mathlib.Core.Logic.{⊎_elim}
 use native.Mathlib.Omega.{arith}
 use native.Mathlib.Numerals.{add-one}
 use native.Mathlib.Nat.{mul-le-mul, mod-eq_of_lt, div-le_self}
@@ -24,7 +23,7 @@ use Rattle.law_fields.specs.Fit.{fit_is}
 use Rattle.law_fields.specs.Amplitudes.{exp_of}
 use Rattle.rpe_quantise.specs.Doubling.{doubled, doubled_above, exp_parts, amplitude_is}
 use Rattle.rpe_quantise.proofs.exp_and_mant.Goals as goal
-use Rattle.rpe_quantise.proofs.exp_and_mant.Goals.{After-doublings-n, Joined-xmaxc-le15, Start}
+use Rattle.rpe_quantise.proofs.exp_and_mant.Goals.{After-doublings-n, Joined-xmaxc-le15, Start, then-xmaxc-le15, else-xmaxc-le15}
 
 -- the difference of two numbers, of which the second is not the larger
 less : (a b : ℕ) → b ≤ a → pos a -ℤ pos b ≡ pos (a - b)
@@ -54,13 +53,13 @@ part s m = rw (code s).0 (to_z_pos w16 (omega (arith, code s, div-le_self (n s) 
 exp-is : (c : Joined-xmaxc-le15) → c.if-xmaxc-le15.exp-bits ≡ exp_of (n c.before)
 exp-is c =
     let s = c.before in
-    ⊎_elim
-    (λ w. rw (test s w.0.taken) w.1)
-    (λ w.
-    let g = rw (code s).0 at w.0.left in
-    let m = leb-false (n s) 15 g in
-    rw g (w.1 ∙ rw (part s 8, less (n s / 8) 1 (omega arith)) refl))
-    c.if-xmaxc-le15.branch
+    elim c.if-xmaxc-le15.branch [
+      | then-xmaxc-le15 w ↦ rw (test s w.if-xmaxc-le15.true) w.exp-is-bits
+      | else-xmaxc-le15 w ↦
+          let g = rw (code s).0 at w.if-xmaxc-le15.false in
+          let m = leb-false (n s) 15 g in
+          rw g (w.exp-is-bits ∙ rw (part s 8, less (n s / 8) 1 (omega arith)) refl)
+    ]
 
 -- e is that exponent, and m the mantissa that it leaves of the code
 module _ (c : Joined-xmaxc-le15) where

@@ -8,7 +8,6 @@ use lib.IntN.{ℤ, pos, ◌+ℤ◌}
 use mir.Syntax.{w16}
 use mir.Val.{SFits, to_z}
 use mir.Facts.{to_z_pos}
-use borrow.Author.Rules.{rules}
 use Rattle.math_integers.specs.Halves.{zar, mem}
 use Rattle.math_integers.specs.Ranges.{back, res}
 use Rattle.standard.specs.Arithmetic.{◌>>◌}

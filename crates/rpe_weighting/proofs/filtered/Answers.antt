@@ -8,11 +8,10 @@ use lib.Dec.{T, leb, leb→le}
 use lib.IntN.{ℤ, pos, ◌+ℤ◌, ◌*ℤ◌, nat_abs}
 use mir.Syntax.{w16, w32}
 use mir.Val.{SFits}
-use borrow.Author.Rules.{rules, sfits_of}
+use borrow.Author.Rules.{sfits_of}
 use Rattle.math_integers.specs.Halves.{P, N, zar, know, mem, apart, abs_is}
 use Rattle.math_integers.specs.Sums.{add_is, mul_is}
 use Rattle.math_integers.specs.Ranges.{back, res, wide}
-use Rattle.math_integers.specs.Needs.{by_4}
 use Rattle.standard.specs.Arithmetic.{◌>>◌, clip}
 use Rattle.standard.specs.Tables.{◌at◌, neg}
 use Rattle.law_arithmetic.specs.Shift.{down_bits}
@@ -87,12 +86,12 @@ record Local (m z : ℤ) (b : ℕ) : Type 0 where
   near : P z + N z ≤ b
 
 -- what `tap` gives
-tap_local : (h : ℤ) {r a b : ℤ} → mem w32 r ≡ r → (r ≡ h *ℤ (mem w16 a +ℤ mem w16 b)) × (nat_abs r ≤ nat_abs h * 65536)
+tap_local : (h : ℤ) {r a b : ℤ} → SFits w32 r → (r ≡ h *ℤ (mem w16 a +ℤ mem w16 b)) × (nat_abs r ≤ nat_abs h * 65536)
     → SFits w16 a → SFits w16 b → Local (mem w32 r) (h *ℤ (a +ℤ b)) (nat_abs h * 65536)
 tap_local h {r} {a} {b} m (e, k) f g =
     let i : r ≡ h *ℤ (a +ℤ b) = rw (back f, back g) at e in
     let near : P r + N r ≤ nat_abs h * 65536 = omega (arith, k, abs_is r) in
-    record { is = m ∙ i; near = rw i at near }
+    record { is = back m ∙ i; near = rw i at near }
 
 module _ {m n y z : ℤ} {a b : ℕ} (p : Local m y a) (q : Local n z b) (t : a + b ≤ 2000000000) where
   plus_fits : SFits w32 (m +ℤ n)
@@ -107,18 +106,18 @@ rounded_fits {m} {z} {a} n p s t = rw p.is (omega (zar, p.near, add_is z (pos n)
 
 -- the four pairs
 pair1 : (c : After-tap) → let wt = (at1 c).args.wt.now in Local (mem w32 c.tap.result) (neg 134 *ℤ (wt at 0 +ℤ wt at 10)) 8781824
-pair1 c = tap_local (neg 134) (res c.tap) c.tap.ensures (w0 c) (w10 c)
+pair1 c = tap_local (neg 134) (sfits_of c.tap.type_inv) (c.tap.ensures.is, c.tap.ensures.near) (w0 c) (w10 c)
 
 pair2 : (c : After-tap-2) → let wt = (at1 (at2 c)).args.wt.now in
     Local (mem w32 c.tap-2.result) (neg 374 *ℤ (wt at 1 +ℤ wt at 9)) 24510464
-pair2 c = tap_local (neg 374) (res c.tap-2) c.tap-2.ensures (w1 c) (w9 c)
+pair2 c = tap_local (neg 374) (sfits_of c.tap-2.type_inv) (c.tap-2.ensures.is, c.tap-2.ensures.near) (w1 c) (w9 c)
 
 pair3 : (c : After-tap-3) → let wt = (at1 (at2 (at3 c))).args.wt.now in
     Local (mem w32 c.tap-3.result) (pos 2054 *ℤ (wt at 3 +ℤ wt at 7)) 134610944
-pair3 c = tap_local (pos 2054) (res c.tap-3) c.tap-3.ensures (w3 c) (w7 c)
+pair3 c = tap_local (pos 2054) (sfits_of c.tap-3.type_inv) (c.tap-3.ensures.is, c.tap-3.ensures.near) (w3 c) (w7 c)
 
 pair4 : (c : After-tap-4) → Local (mem w32 c.tap-4.result) (pos 5741 *ℤ (wt c at 4 +ℤ wt c at 6)) 376242176
-pair4 c = tap_local (pos 5741) (res c.tap-4) c.tap-4.ensures (w4 c) (w6 c)
+pair4 c = tap_local (pos 5741) (sfits_of c.tap-4.type_inv) (c.tap-4.ensures.is, c.tap-4.ensures.near) (w4 c) (w6 c)
 
 pub overflow_add-outer : goal.overflow_add-outer
 overflow_add-outer c = plus_fits (pair1 (at2 c)) (pair2 c) (omega arith)

@@ -1,6 +1,6 @@
 -- Iteration i stores x[m + 3 · i], which is entry i of the grid. After 13 iterations the array is the grid.
-use Prim.Native.Nat.{◌+◌, ◌-◌, ◌*◌, ◌≤◌}
-use mathlib.Core.Path.{◌≡◌, refl, sym, ◌∙◌}
+use Prim.Native.Nat.{◌+◌, ◌*◌}
+use mathlib.Core.Path.{refl, sym, ◌∙◌}
 use native.Mathlib.Omega.{arith}
 use lib.IntN.{pos}
 use lib.ListN.{replicate}
@@ -8,8 +8,7 @@ use mir.Syntax.{w16}
 use mir.Val.{SFits}
 use borrow.Author.Rules.{rules, sfits_of}
 use Rattle.math_integers.specs.Ranges.{back}
-use Rattle.math_integers.specs.Needs.{by_8}
-use Rattle.math_lists.specs.Fill.{filled, fill_next, fill_end}
+use Rattle.math_lists.specs.Fill.{fill_next, fill_end}
 use Rattle.standard.specs.Tables.{◌at◌}
 use Rattle.standard.specs.Rpe.{grid}
 use Rattle.law_lengths.specs.Subframes.{grid_length}

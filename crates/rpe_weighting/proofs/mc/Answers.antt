@@ -10,7 +10,7 @@ use lib.Seq.{take_all}
 use lib.Signed.{lt_z}
 use mir.Syntax.{w32}
 use mir.Val.{SFits}
-use borrow.Author.Rules.{rules, sfits_of}
+use borrow.Author.Rules.{rules}
 use Rattle.math_integers.specs.Halves.{zar, mem, abs_is}
 use Rattle.math_integers.specs.Sums.{add_is, minus_is}
 use Rattle.math_integers.specs.Ranges.{back}
@@ -21,10 +21,10 @@ use Rattle.math_lists.specs.Best.{Best, best, best_start, best_new, best_old}
 use Rattle.standard.specs.Arithmetic.{L_squares}
 use Rattle.standard.specs.Tables.{◌at◌}
 use Rattle.standard.specs.Rpe.{grid, Mc}
-use Rattle.op_sums.specs.Search.{best_of, chosen}
+use Rattle.op_sums.specs.Search.{best_of}
 use Rattle.rpe_weighting.specs.Energy.{small, small_at, total, total_in, energy_is, fourth_is}
 use Rattle.rpe_weighting.proofs.mc.Goals as goal
-use Rattle.rpe_weighting.proofs.mc.Goals.{After-better-a, After-better-b, After-better-c, After-better-found, After-fourth-1, After-fourth-2-1, After-totals-e}
+use Rattle.rpe_weighting.proofs.mc.Goals.{After-totals-e}
 
 -- the energy of a grid, and the four
 abbrev energy : List ℤ → ℕ → ℤ
@@ -54,10 +54,10 @@ module _ (t : After-totals-e) where
   first_is = let f : SFits w32 t.totals-e.result.first = search rules in back f ∙ t.totals-e.ensures.first
 
   second_is : mem w32 t.totals-e.result.second ≡ total 1 q
-  second_is = let f : SFits w32 t.totals-e.result.second = search rules in back f ∙ t.totals-e.ensures.second.0
+  second_is = let f : SFits w32 t.totals-e.result.second = search rules in back f ∙ t.totals-e.ensures.second
 
   third_is : mem w32 t.totals-e.result.third ≡ total 2 q
-  third_is = let f : SFits w32 t.totals-e.result.third = search rules in back f ∙ t.totals-e.ensures.second.1
+  third_is = let f : SFits w32 t.totals-e.result.third = search rules in back f ∙ t.totals-e.ensures.third
 
   -- s is the sum over a grid
   module _ (m : ℕ) (h : m ≤ 3) {s : ℤ} (e : s ≡ total m q) where
@@ -81,92 +81,66 @@ module _ (t : After-totals-e) where
         let d = double_is ∙ sym (tab_at_zero (energy x) 4 m (pos 0) (omega arith)) in
         r ∙ by_cond (λ z. z ≡ best (take (m + 1) xs)) (lt_z b.sum (mem w32 (s +ℤ s))) (best_new xs m p l d) (best_old xs m p l d)
 
--- the fourth sum starts as the first sum less square 0
-module _ (c : After-fourth-1) where
-  abbrev three : After-totals-e
-  three = c.before
+-- the fourth sum starts as the first sum less square 0, and square 39 is added to it
+module _ (t : After-totals-e) where
+  -- a square fits 32 bits
+  square_fits : (k : ℕ) → k < 40 → SFits w32 (q t at k)
+  square_fits k h = omega (zar, small_at (q t) (forty t) (all_small t) k h, abs_is (q t at k))
 
   abbrev less : ℤ
-  less = mem w32 three.totals-e.result.first -ℤ mem w32 (q three at 0)
+  less = mem w32 t.totals-e.result.first -ℤ mem w32 (q t at 0)
 
-  less_is : less ≡ total 0 (q three) -ℤ q three at 0
-  less_is = let f : SFits w32 (q three at 0) = sfits_of c.fourth-1.given in ap₂ ◌-ℤ◌ (first_is three) (back f)
+  less_is : less ≡ total 0 (q t) -ℤ q t at 0
+  less_is = ap₂ ◌-ℤ◌ (first_is t) (back (square_fits 0 (omega arith)))
 
   less_fits : SFits w32 less
   less_fits =
-      let s = total 0 (q three) in
-      let z = q three at 0 in
-      let s-in = total_in (q three) (forty three) (all_small three) 0 (omega arith) in
-      let z-in = small_at (q three) (forty three) (all_small three) 0 (omega arith) in
+      let s = total 0 (q t) in
+      let z = q t at 0 in
+      let s-in = total_in (q t) (forty t) (all_small t) 0 (omega arith) in
+      let z-in = small_at (q t) (forty t) (all_small t) 0 (omega arith) in
       rw less_is (omega (zar, abs_is s, abs_is z, minus_is s z))
 
--- and square 39 is added to it
-module _ (c : After-fourth-2-1) where
-  abbrev at_less : After-fourth-1
-  at_less = c.before.before.before.before
-
-  abbrev from : After-totals-e
-  from = three at_less
-
   abbrev fourth : ℤ
-  fourth = mem w32 (less at_less) +ℤ mem w32 (q from at 39)
+  fourth = mem w32 less +ℤ mem w32 (q t at 39)
 
-  sum_is : fourth ≡ total 3 (q from)
-  sum_is =
-      let f : SFits w32 (q from at 39) = sfits_of c.fourth-2-1.given in
-      ap₂ ◌+ℤ◌ (back (less_fits at_less) ∙ less_is at_less) (back f) ∙ fourth_is (q from)
+  sum_is : fourth ≡ total 3 (q t)
+  sum_is = ap₂ ◌+ℤ◌ (back less_fits ∙ less_is) (back (square_fits 39 (omega arith))) ∙ fourth_is (q t)
 
   fourth_fits : SFits w32 fourth
-  fourth_fits = rw sum_is (omega (zar, total_in (q from) (forty from) (all_small from) 3 (omega arith), abs_is (total 3 (q from))))
+  fourth_fits = rw sum_is (omega (zar, total_in (q t) (forty t) (all_small t) 3 (omega arith), abs_is (total 3 (q t))))
 
-  last_is : mem w32 fourth ≡ total 3 (q from)
+  last_is : mem w32 fourth ≡ total 3 (q t)
   last_is = back fourth_fits ∙ sum_is
+
+pub overflow_sub-fourth : goal.overflow_sub-fourth
+overflow_sub-fourth c = less_fits (goal.at.overflow_sub-fourth c).After-totals-e
+
+pub overflow_add-fourth : goal.overflow_add-fourth
+overflow_add-fourth c = fourth_fits (goal.at.overflow_add-fourth c).After-totals-e
 
 -- ---- the four steps of the search
 
--- the point after the sums, from each step
-abbrev sums1 : After-better-a → After-fourth-2-1
-sums1 c = c.before.before.before.before
-
-abbrev sums2 : After-better-b → After-fourth-2-1
-sums2 c = sums1 c.before.before.before.before
-
-abbrev sums3 : After-better-c → After-fourth-2-1
-sums3 c = sums2 c.before.before.before
-
 pub overflow_add-e : goal.overflow_add-e
-overflow_add-e c = let t = from c.before.before.before in double_fits t 0 (omega arith) (first_is t)
+overflow_add-e c = let t = (goal.at.overflow_add-e c).After-totals-e in double_fits t 0 (omega arith) (first_is t)
 
 pub overflow_add-e-2 : goal.overflow_add-e-2
-overflow_add-e-2 c = let t = from (sums1 (goal.at.overflow_add-e-2 c).After-better-a) in double_fits t 1 (omega arith) (second_is t)
+overflow_add-e-2 c = let t = (goal.at.overflow_add-e-2 c).After-totals-e in double_fits t 1 (omega arith) (second_is t)
 
 pub overflow_add-e-3 : goal.overflow_add-e-3
-overflow_add-e-3 c = let t = from (sums2 (goal.at.overflow_add-e-3 c).After-better-b) in double_fits t 2 (omega arith) (third_is t)
+overflow_add-e-3 c = let t = (goal.at.overflow_add-e-3 c).After-totals-e in double_fits t 2 (omega arith) (third_is t)
 
 pub overflow_add-fourth-2 : goal.overflow_add-fourth-2
-overflow_add-fourth-2 c = double_fits (from (sums3 c)) 3 (omega arith) (last_is (sums3 c))
+overflow_add-fourth-2 c = let t = (goal.at.overflow_add-fourth-2 c).After-totals-e in double_fits t 3 (omega arith) (last_is t)
 
 -- the best of one grid, of two, of three, of four
-best1 : (c : After-better-a) → chosen c.better-a.result ≡ best (take 1 (energies (x (from (sums1 c)))))
-best1 c = let t = from (sums1 c) in turn t 0 (omega arith) (first_is t) (sym best_start) c.better-a.ensures
-
-best2 : (c : After-better-b) → chosen c.better-b.result ≡ best (take 2 (energies (x (from (sums2 c)))))
-best2 c = let t = from (sums2 c) in turn t 1 (omega arith) (second_is t) (best1 c.before.before.before.before) c.better-b.ensures
-
-best3 : (c : After-better-c) → chosen c.better-c.result ≡ best (take 3 (energies (x (from (sums3 c)))))
-best3 c = let t = from (sums3 c) in turn t 2 (omega arith) (third_is t) (best2 c.before.before.before) c.better-c.ensures
-
-best4 : (c : After-better-found) → chosen c.better-found.result ≡ best (take 4 (energies (x (from (sums3 c.before)))))
-best4 c = let f = sums3 c.before in turn (from f) 3 (omega arith) (last_is f) (best3 c.before) c.better-found.ensures
-
 pub returns : goal.returns
 unfolding Mc
 returns c =
-    let s = x (from (sums3 c.before)) in
-    ap (λ (b : Best). b.at) (best4 c ∙ ap best (take_all 4 (energies s) (omega (arith, tab_length (energy s) 0 4))))
-
-pub overflow_sub-fourth : goal.overflow_sub-fourth
-overflow_sub-fourth c = less_fits c.before.before.before
-
-pub overflow_add-fourth : goal.overflow_add-fourth
-overflow_add-fourth = fourth_fits
+    let t = (goal.at.returns c).After-totals-e in
+    let best1 = turn t 0 (omega arith) (first_is t) (sym best_start) c.better-a.ensures in
+    let best2 = turn t 1 (omega arith) (second_is t) best1 c.better-b.ensures in
+    let best3 = turn t 2 (omega arith) (third_is t) best2 c.better-c.ensures in
+    let best4 = turn t 3 (omega arith) (last_is t) best3 c.better-found.ensures in
+    let s = x t in
+    ap (λ (b : Best). b.at) (best4 ∙ ap best (take_all 4 (energies s) (omega (arith, tab_length (energy s) 0 4))))

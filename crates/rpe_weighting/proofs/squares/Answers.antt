@@ -1,5 +1,5 @@
 -- Iteration k stores the square of x[k]. The samples that are read are words, so their squares are small.
-use Prim.Native.Nat.{ℕ, ◌-◌, ◌<◌, ◌≤◌}
+use Prim.Native.Nat.{ℕ}
 use mathlib.Core.Path.{◌≡◌, refl, sym, ap, ◌∙◌}
 use mathlib.Core.List.{List}
 use native.Mathlib.Omega.{arith}
@@ -11,8 +11,7 @@ use borrow.Author.Count.{below_more}
 use borrow.Author.Rules.{rules, sfits_of}
 use Rattle.math_integers.specs.Halves.{mem}
 use Rattle.math_integers.specs.Ranges.{back, wide, shr_fits, product_fits}
-use Rattle.math_integers.specs.Needs.{by_4}
-use Rattle.math_lists.specs.Fill.{filled, fill_next, fill_end}
+use Rattle.math_lists.specs.Fill.{fill_next, fill_end}
 use Rattle.math_lists.specs.Tab.{map_at}
 use Rattle.standard.specs.Arithmetic.{◌>>◌}
 use Rattle.standard.specs.Tables.{◌at◌}

@@ -1,5 +1,5 @@
 -- Iteration k stores e[k] at 5 + k, in an array of fifty zeros. The first five and the last five stay 0.
-use Prim.Native.Nat.{◌+◌, ◌-◌, ◌≤◌}
+use Prim.Native.Nat.{◌+◌}
 use mathlib.Core.Path.{◌≡◌, refl, sym, ◌∙◌}
 use native.Mathlib.Omega.{arith}
 use lib.IntN.{pos}
@@ -8,8 +8,7 @@ use mir.Syntax.{w16}
 use mir.Val.{SFits}
 use borrow.Author.Rules.{rules}
 use Rattle.math_integers.specs.Ranges.{back}
-use Rattle.math_integers.specs.Needs.{by_4}
-use Rattle.math_lists.specs.Fill.{filled, fill_next}
+use Rattle.math_lists.specs.Fill.{fill_next}
 use Rattle.standard.specs.Tables.{◌at◌}
 use Rattle.rpe_weighting.specs.Filter.{around, around_length, around_at, around_end}
 use Rattle.rpe_weighting.proofs.surrounded.Goals as goal

@@ -1,12 +1,12 @@
 -- After n iterations each of the three is the plain sum of the first n squares of its grid, and that sum fits 32 bits.
-use Prim.Native.Nat.{ℕ, ◌+◌, ◌-◌, ◌*◌, ◌≤◌}
+use Prim.Native.Nat.{ℕ, ◌+◌, ◌*◌, ◌≤◌}
 use mathlib.Core.Path.{◌≡◌, refl, ap, ap₂, ◌∙◌}
 use mathlib.Core.List.{List}
 use native.Mathlib.Omega.{arith}
 use lib.IntN.{ℤ, ◌+ℤ◌}
 use lib.ListN.{length}
 use mir.Syntax.{w32}
-use mir.Val.{SFits, to_z}
+use mir.Val.{SFits}
 use borrow.Author.Rules.{rules, sfits_of}
 use Rattle.math_integers.specs.Halves.{zar, mem, abs_is}
 use Rattle.math_integers.specs.Ranges.{back}
@@ -69,7 +69,7 @@ returns c =
     let q = t.args.q in
     let v = t.loop-n.invariant in
     let l : 13 ≤ t.loop-n.n = c.loop-n-test.false in
-    (v.1 ∙ part_end 0 q _ l, (v.2 ∙ part_end 1 q _ l, v.3 ∙ part_end 2 q _ l))
+    record { first = v.1 ∙ part_end 0 q _ l; second = v.2 ∙ part_end 1 q _ l; third = v.3 ∙ part_end 2 q _ l }
 
 pub loop-n-init : goal.loop-n-init
 loop-n-init c = (search rules, refl, refl, refl)

@@ -1,5 +1,5 @@
 -- Iteration k stores the filter's output for the eleven samples from wt[k] on; the filter uses no more of them.
-use Prim.Native.Nat.{◌+◌, ◌-◌, ◌≤◌}
+use Prim.Native.Nat.{◌+◌, ◌-◌}
 use mathlib.Core.Path.{◌≡◌, refl, sym, ap, ◌∙◌}
 use native.Mathlib.Omega.{arith}
 use mathlib.Core.List.{List}
@@ -7,9 +7,8 @@ use lib.IntN.{ℤ, pos}
 use lib.ListN.{length, drop, replicate, length-set, length-take, length-drop}
 use borrow.Author.Rules.{rules}
 use Rattle.math_integers.specs.Ranges.{res}
-use Rattle.math_integers.specs.Needs.{by_4}
-use Rattle.math_lists.specs.Tab.{tab, tab_length, tab_at_zero}
-use Rattle.math_lists.specs.Fill.{filled, fill_next, fill_end}
+use Rattle.math_lists.specs.Tab.{tab_length, tab_at_zero}
+use Rattle.math_lists.specs.Fill.{fill_next, fill_end}
 use Rattle.standard.specs.Rpe.{filtered, weighted}
 use Rattle.rpe_weighting.specs.Filter.{filtered_front}
 use Rattle.rpe_weighting.proofs.weighted.Invariants.{outs}

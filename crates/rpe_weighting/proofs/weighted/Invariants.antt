@@ -1,17 +1,12 @@
 -- Iteration k stores the filter's output for the eleven samples from wt[k] on; the filter uses no more of them.
-use Prim.Native.Nat.{◌+◌, ◌-◌, ◌≤◌}
-use mathlib.Core.Path.{◌≡◌, refl, sym, ap, ◌∙◌}
-use native.Mathlib.Omega.{arith}
+use Prim.Native.Nat.{◌-◌, ◌≤◌}
+use mathlib.Core.Path.{◌≡◌}
 use mathlib.Core.List.{List}
-use lib.IntN.{ℤ, pos}
-use lib.ListN.{length, drop, replicate, length-set, length-take, length-drop}
-use borrow.Author.Rules.{rules}
-use Rattle.math_integers.specs.Ranges.{res}
-use Rattle.math_integers.specs.Needs.{by_4}
-use Rattle.math_lists.specs.Tab.{tab, tab_length, tab_at_zero}
-use Rattle.math_lists.specs.Fill.{filled, fill_next, fill_end}
-use Rattle.standard.specs.Rpe.{filtered, weighted}
-use Rattle.rpe_weighting.specs.Filter.{filtered_front}
+use lib.IntN.{ℤ}
+use lib.ListN.{length, drop}
+use Rattle.math_lists.specs.Tab.{tab}
+use Rattle.math_lists.specs.Fill.{filled}
+use Rattle.standard.specs.Rpe.{filtered}
 use Rattle.rpe_weighting.proofs.weighted.Given as goal
 
 -- the filter's outputs, from each index of wt on

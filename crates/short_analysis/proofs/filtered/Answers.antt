@@ -75,17 +75,17 @@ module _ (r : After-coefficients-fourth) where
   asked {i} l e d = ((own_length i e, d.p_length), (d.di_length, (d.q_length, ap (every factor) e ∙ own_above i l)))
 
 pub after_cell-p-requires : goal.after_cell-p-requires
-after_cell-p-requires c = (start c.before).requires
+after_cell-p-requires c = c.requires
 
 pub loop-j-init : goal.loop-j-init
 loop-j-init c =
-    let r = c.before.before in
+    let r = (goal.at.loop-j-init c).After-coefficients-fourth in
     let s = (start r).args.s.now in
     let e : drop 1 c.after_cell-p.result ≡ s = ap (drop 1) c.after_cell-p.ensures in (
       search rules,
       refl,
       record {
-        di_length = (start r).requires;
+        di_length = c.requires;
         p_length = search rules;
         q_length = refl;
         kept_length = refl;
@@ -95,13 +95,9 @@ loop-j-init c =
 
 -- ---- an iteration: section i, and then section k
 
-module _ (b : At-loop-j) where
-  abbrev before-loop : After-coefficients-fourth
-  before-loop = b.before.before.before
-
 module _ (t : In-loop-j) where
   abbrev known : After-coefficients-fourth
-  known = before-loop t.before
+  known = (goal.at.In-loop-j t).After-coefficients-fourth
 
   abbrev i_of : ℕ
   i_of = 2 * t.loop-j.j
@@ -115,26 +111,10 @@ module _ (t : In-loop-j) where
   k_below : k_of < 8
   k_below = let l = t.loop-j-test.true in omega arith
 
--- section i's coefficients are read,
-module _ (e : After-own) where
-  abbrev lent : After-fourth-1
-  lent = e.before.before
-
-  abbrev turn : In-loop-j
-  turn = lent.before.before.before.before.before
-
--- and its cell;
-module _ (a : After-stage-arg-1) where
-  abbrev rp-at : After-own
-  rp-at = a.before.before.before.before
-
--- it is done, and sav went from p to q
+-- section i's coefficients and its cell are read; it is done, and sav went from p to q
 module _ (c : After-stage) where
-  abbrev cell : After-stage-arg-1
-  cell = c.before.before.before.before
-
   abbrev turn_one : In-loop-j
-  turn_one = turn (rp-at cell)
+  turn_one = (goal.at.After-stage c).In-loop-j
 
   abbrev kept_one : List ℤ
   kept_one = set turn_one.loop-j.kept (i_of turn_one) (mem w16 c.stage.result)
@@ -143,39 +123,19 @@ module _ (c : After-stage) where
       c.stage.new.di c.stage.new.q c.stage.new.p kept_one
   done_one =
       let t = turn_one in
-      let u : SFits w16 (cells (known t) at i_of t) = sfits_of cell.stage-arg-1.given in
-      done_next _ _ _ _ _ _ t.loop-j.invariant.2 (eight (known t)).0 (i_below t) (rp-at cell).own.ensures (back u)
+      let u : SFits w16 (cells (known t) at i_of t) = sfits_of c.stage-arg-1.given in
+      done_next _ _ _ _ _ _ t.loop-j.invariant.2 (eight (known t)).0 (i_below t) c.own.ensures (back u)
       c.stage.ensures.p c.stage.ensures.di.0 c.stage.ensures.di.1.0 c.stage.ensures.di.1.1 (res c.stage)
 
 pub stage-requires : goal.stage-requires
 stage-requires c =
-    let e = rp-at c.before.before.before in
-    let t = turn e in
-    asked (known t) (i_below t) e.own.ensures t.loop-j.invariant.2
+    let t = (goal.at.stage-requires c).In-loop-j in
+    asked (known t) (i_below t) c.own.ensures t.loop-j.invariant.2
 
--- section k's coefficients are read,
-module _ (e : After-own-in-loop-j) where
-  abbrev lent2 : After-fourth-in-loop-j-1
-  lent2 = e.before.before
-
-  abbrev half : After-q-in-loop-j-1
-  half = lent2.before.before.before.before.before
-
-  abbrev one : After-stage
-  one = half.before.before.before
-
--- and its cell;
-module _ (a : After-stage-arg-in-loop-j-2-1) where
-  abbrev rp2-at : After-own-in-loop-j
-  rp2-at = a.before.before.before.before
-
--- it is done, and sav went from q to p
+-- section k's coefficients and its cell are read; it is done, and sav went from q to p
 module _ (c : After-stage-in-loop-j) where
-  abbrev cell2 : After-stage-arg-in-loop-j-2-1
-  cell2 = c.before.before.before.before
-
   abbrev one_of : After-stage
-  one_of = one (rp2-at cell2)
+  one_of = (goal.at.After-stage-in-loop-j c).After-stage
 
   abbrev turn_two : In-loop-j
   turn_two = turn_one one_of
@@ -187,40 +147,34 @@ module _ (c : After-stage-in-loop-j) where
       c.stage-in-loop-j.new.di c.stage-in-loop-j.new.q c.stage-in-loop-j.new.p kept_two
   done_two =
       let t = turn_two in
-      let u : SFits w16 (cells (known t) at k_of t) = sfits_of cell2.stage-arg-in-loop-j-2-1.given in
-      done_next _ _ _ _ _ _ (done_one one_of) (eight (known t)).0 (k_below t) (rp2-at cell2).own-in-loop-j.ensures (back u)
+      let u : SFits w16 (cells (known t) at k_of t) = sfits_of c.stage-arg-in-loop-j-2-1.given in
+      done_next _ _ _ _ _ _ (done_one one_of) (eight (known t)).0 (k_below t) c.own-in-loop-j.ensures (back u)
       c.stage-in-loop-j.ensures.p c.stage-in-loop-j.ensures.di.0 c.stage-in-loop-j.ensures.di.1.0 c.stage-in-loop-j.ensures.di.1.1 (res c.stage-in-loop-j)
 
 pub stage-requires-in-loop-j : goal.stage-requires-in-loop-j
 stage-requires-in-loop-j c =
-    let e = rp2-at c.before.before.before in
-    let t = turn_one (one e) in
-    asked (known t) (k_below t) e.own-in-loop-j.ensures (done_one (one e))
+    let one = (goal.at.stage-requires-in-loop-j c).After-stage in
+    let t = turn_one one in
+    asked (known t) (k_below t) c.own-in-loop-j.ensures (done_one one)
 
 -- so one iteration of four is done
-module _ (c : After-p-in-loop-j-3-1) where
-  abbrev two : After-stage-in-loop-j
-  two = c.before.before.before
-
-  abbrev turn-done : In-loop-j
-  turn-done = turn_two two
-
 fewer : (j : ℕ) → j < 4 → Fits w64 (j + 1) × (4 - (j + 1) < 4 - j) × (j + 1 ≤ 4) × (2 * j + 1 + 1 ≡ 2 * (j + 1))
 fewer j h = (search rules, omega arith, omega arith, omega arith)
 
 pub loop-j-smaller : goal.loop-j-smaller
-loop-j-smaller c = (fewer _ (turn-done c).loop-j-test.true).1
+loop-j-smaller c = (fewer _ c.loop-j-test.true).1
 
 pub loop-j-preserved : goal.loop-j-preserved
 loop-j-preserved c =
-    let t = turn-done c in
-    let (_, _, f, g) = fewer _ t.loop-j-test.true in
-    (f, own_length (known t) (k_of t) (rp2-at (cell2 (two c))).own2.ensures, rw g at (done_two (two c)))
+    let two = (goal.at.loop-j-preserved c).After-stage-in-loop-j in
+    let t = turn_two two in
+    let (_, _, f, g) = fewer _ c.loop-j-test.true in
+    (f, own_length (known t) (k_of t) c.own-in-loop-j.ensures, rw g at (done_two two))
 
 -- ---- after the loop
 
 pub shape_of-s : goal.shape_of-s
-shape_of-s c = let b = c.before in b.loop-j.invariant.2.di_length ∙ sym (start (before-loop b)).requires
+shape_of-s c = c.loop-j.invariant.2.di_length ∙ sym c.requires
 
 -- the whole, from what was computed before the loop
 whole : (u old new s first second third fourth : List ℤ) → length u ≡ 8 → length old ≡ 8 → length new ≡ 8 → length s ≡ 160
@@ -231,9 +185,8 @@ whole u old new s first second third fourth a b c d e₀ e₁ e₂ e₃ = rw (e�
 
 pub returns : goal.returns
 returns c =
-    let b = c.before in
-    let d = b.loop-j.invariant.2 in
-    let r = before-loop b in
+    let d = c.loop-j.invariant.2 in
+    let r = (goal.at.returns c).After-coefficients-fourth in
     let s = start r in
     let w =
     whole (cells r) s.args.old s.args.new s.args.s.now (first r) (second r) (third r) (fourth r)
@@ -242,17 +195,17 @@ returns c =
     r.coefficients-fourth.ensures in
     let m = pairs_eight (first r) (second r) (third r) (fourth r) (cells r) (eight r).0 in
     let (f, g) = along_end (stage 159) _ _ d.along (omega (arith, m)) (omega (arith, d.kept_length)) in
-    rw w (g, ap (λ (t : List ℤ × List ℤ). t.0) f)
+    record { u = rw w g; d = rw w (ap (λ (t : List ℤ × List ℤ). t.0) f) }
 
 -- the address of a word among eight does not wrap
 place_fits : {i : ℕ} → i < 8 → Fits w64 (i * 2)
 place_fits {i} h = scaled_Fits i 8 2 h (lit< tt)
 
 pub offset_bounds-kept-k : goal.offset_bounds-kept-k
-offset_bounds-kept-k c = place_fits (k_below (turn-done c))
+offset_bounds-kept-k c = place_fits (k_below (goal.at.offset_bounds-kept-k c).In-loop-j)
 
 pub bounds-kept-k : goal.bounds-kept-k
-bounds-kept-k c = k_below (turn-done c)
+bounds-kept-k c = k_below (goal.at.bounds-kept-k c).In-loop-j
 
 pub overflow_step-j : goal.overflow_step-j
-overflow_step-j c = (fewer _ (turn-done c).loop-j-test.true).0
+overflow_step-j c = (fewer _ c.loop-j-test.true).0

@@ -3,6 +3,7 @@ use mathlib.Core.Path.{◌≡◌}
 use mathlib.Core.List.{List}
 use borrow.Author.Rules.{rules, sfits_of}
 use lib.IntN.{ℤ}
+use mir.Syntax.{w16}
 use Rattle.math_integers.specs.Ranges.{back}
 use Rattle.math_integers.specs.Needs.{by_8}
 use Rattle.short_analysis.specs.Sections.{spread}
@@ -10,12 +11,8 @@ use Rattle.short_analysis.proofs.own.Goals as goal
 
 pub returns : goal.returns
 returns c =
-    let a₄ = c.before.before.before in
-    let a₃ = a₄.before in
-    let a₂ = a₃.before in
-    let a₁ = a₂ in
-    read c.spread.ensures (back (sfits_of a₁.spread-arg-1.given)) (back (sfits_of a₂.spread-arg-2-1.given))
-    (back (sfits_of a₃.spread-arg-3-1.given)) (back (sfits_of a₄.spread-arg-4-1.given))
+    read c.spread.ensures (back {w = w16} (sfits_of c.spread-arg-1.given)) (back {w = w16} (sfits_of c.spread-arg-2-1.given))
+    (back {w = w16} (sfits_of c.spread-arg-3-1.given)) (back {w = w16} (sfits_of c.spread-arg-4-1.given))
   where
     read : {xs : List ℤ} {a b c d a' b' c' d' : ℤ} → xs ≡ spread a b c d → a ≡ a' → b ≡ b' → c ≡ c' → d ≡ d' → xs ≡ spread a' b' c' d'
     read e f g h i = rw (f, g, h, i) at e

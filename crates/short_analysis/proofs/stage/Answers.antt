@@ -14,7 +14,7 @@ use Rattle.math_lists.specs.Parts.{put}
 use Rattle.standard.specs.Tables.{◌at◌}
 use Rattle.short_analysis.specs.Sections.{further, saved, stage}
 use Rattle.short_analysis.proofs.stage.Goals as goal
-use Rattle.short_analysis.proofs.stage.Goals.{After-section, After-section-arg-1, Start}
+use Rattle.short_analysis.proofs.stage.Goals.{Start}
 
 -- p, with the cell put first
 module _ (s : Start) where
@@ -30,18 +30,10 @@ module _ (s : Start) where
       rw (back s.ranges.u) (set_split s.args.p.now 0 s.args.u (omega arith))
 
 pub slice_bounds-section-end : goal.slice_bounds-section-end
-slice_bounds-section-end c = let l = led_length c.before in search rules
-
--- where the section has been called
-module _ (e : After-section) where
-  abbrev lent : After-section-arg-1
-  lent = e.before.before.before
-
-  abbrev start : Start
-  start = lent.before.before
+slice_bounds-section-end c = let l = led_length c in search rules
 
 pub slice_copy_out-result : goal.slice_copy_out-result
-slice_copy_out-result c = let l = led_length (start c.before.before) in search rules
+slice_copy_out-result c = let l = led_length (goal.at.slice_copy_out-result c).Start in search rules
 
 -- only the part of q after its first element is passed on, so the first element stays
 after_first : (q y : List ℤ) → length q ≡ 161 → put 1 160 q y ≡ q at 0 ∷ y
@@ -51,19 +43,14 @@ after_first (x ∷ q) y h = rw (drop_of_length-le q {i = 160} (omega arith), app
 pub returns : goal.returns
 unfolding stage
 returns c =
-    let e = c.before.before.before in
-    let s = start e in
-    let q = s.args.q.now in
-    let rp = s.args.rp.now in
-    let di = s.args.di.now in
-    let out : e.section.new.sav ≡ saved rp (take 160 (led s)) di = e.section.ensures.sav in
-    let last : SFits w16 (led s at 160) = sfits_of c.result-1.given in (
-      led_is s,
-      (
-        e.section.ensures.di ∙ ap (λ (p : List ℤ). further rp (take 160 p) di) (led_is s),
-        (
-          after_first q _ s.requires.1.1.0 ∙ ap (q at 0 ∷◌) (out ∙ ap (λ (p : List ℤ). saved rp (take 160 p) di) (led_is s)),
-          back last ∙ ap (◌at 160) (led_is s),
-        ),
-      ),
-    )
+    let s = (goal.at.returns c).Start in
+    let q = c.args.q.now in
+    let rp = c.args.rp.now in
+    let di = c.args.di.now in
+    let out : c.section.new.sav ≡ saved rp (take 160 (led s)) di = c.section.ensures.sav in
+    let last : SFits w16 (led s at 160) = sfits_of c.result-1.given in record {
+      p = led_is s;
+      di = c.section.ensures.di ∙ ap (λ (p : List ℤ). further rp (take 160 p) di) (led_is s);
+      q = after_first q _ c.requires.1.1.0 ∙ ap (q at 0 ∷◌) (out ∙ ap (λ (p : List ℤ). saved rp (take 160 p) di) (led_is s));
+      u = back last ∙ ap (◌at 160) (led_is s);
+    }

@@ -1,0 +1,38 @@
+-- Each read goes behind the bytes that are there, so those are unchanged. The known bytes that it takes from the input stand behind
+-- those taken before. Each turn that goes on has read at least one byte.
+use Rattle.std.proofs.Common.{◌≡◌, ℕ, ◌+◌, ◌-◌, ◌≤◌, List, ◌++◌, rules, arith, length, take, drop, slice_range, sym, ap, ◌∙◌, subst, length-drop, length-take-le}
+use Rattle.std.proofs.Math.Seq.{take-append-add}
+use Rattle.std.proofs.KnownBytes.{Consumes-trans}
+use Rattle.std.proofs.lemmas.List.{drop-take}
+use Rattle.std.proofs.lemmas.Slice.{take-put_mid_below}
+use Rattle.std.specs.Io.KnownBytes.{Consumes}
+use lib.Seq.{drop-append-le, take-append-le}
+use borrow.Rule.Slice.PartMut.{put_mid, post_of}
+use Rattle.io_streams.proofs.gather.Goals as goal
+
+-- n bytes of what was read into the room from index `done` on stand behind those from index `there` on
+behind : (there done k n e : ℕ) (xs ys : List ℕ) → there ≤ done → done ≤ length xs → n ≤ length ys → e ≡ done + n
+    → slice_range (put_mid done k xs ys) there e ≡ slice_range xs there done ++ take n ys
+behind there done k n e xs ys from within fits end =
+    let post = post_of done k xs in
+    let front = drop there (take done xs) in
+    let long : length (take done xs) ≡ done = length-take-le done xs within in
+    let before : front ≡ slice_range xs there done = ap (λ m. drop there (take m xs)) (omega arith) ∙ drop-take there (done - there) xs in
+    let size : e - there ≡ length front + n = rw length-drop (omega arith) in
+    let rest : drop there (put_mid done k xs ys) ≡ front ++ (ys ++ post) = drop-append-le there (take done xs) (ys ++ post) (omega arith) in
+    ap (take (e - there)) rest ∙ ap (λ m. take m (front ++ (ys ++ post))) size ∙ take-append-add front (ys ++ post) n
+    ∙ ap (λ l. front ++ l) (take-append-le n ys post fits) ∙ ap (λ l. l ++ take n ys) before
+
+pub returns-then-more-eq0-clause-taken : goal.returns-then-more-eq0-clause-taken
+returns-then-more-eq0-clause-taken g c =
+    let held = c.loop-done.invariant in
+    let part = behind c.args.there c.loop-done.done _ c.read-more.result.count c.loop-done.done c.loop-done.room c.read-more.new.room (omega arith) (omega arith) (omega arith) (omega arith) in
+    subst (Consumes _ _) (sym part) (Consumes-trans _ _ _ _ _ held.5 c.read-more.ensures.taken)
+
+pub loop-done-preserved : goal.loop-done-preserved
+loop-done-preserved g c =
+    let held = c.loop-done.invariant in
+    let n = c.read-more.result.count in
+    let part = behind c.args.there c.loop-done.done _ n (c.loop-done.done + n) c.loop-done.room c.read-more.new.room (omega arith) (omega arith) (omega arith) (search rules) in
+    let stands = take-put_mid_below c.loop-done.done _ c.loop-done.room c.read-more.new.room c.args.there (omega arith) (omega arith) ∙ held.3 in
+    (search rules, search rules, search rules, stands, λ h. absurd (omega arith), subst (Consumes _ _) (sym part) (Consumes-trans _ _ _ _ _ held.5 c.read-more.ensures.taken))

@@ -1,0 +1,53 @@
+-- Eight words of 16 bits become words of 32 bits: the cast changes none of the numbers.
+use mathlib.Core.Path.{ap, ◌∙◌}
+use mathlib.Core.List.{List}
+use lib.IntN.{ℤ}
+use mir.Syntax.{w16, w32}
+use mir.Val.{SFits}
+use borrow.Author.Rules.{rules}
+use Rattle.math_integers.specs.Halves.{mem}
+use Rattle.standard.specs.Tables.{◌at◌}
+use Rattle.law_arithmetic.specs.Within.{word_yes}
+use Rattle.short_synthesis.specs.declared.Line.{Line}
+use Rattle.short_synthesis.specs.Lattice.{cells, All, all_from, lined_same, eight_is, widened, widened_fits}
+use Rattle.short_synthesis.proofs.spread.Goals as goal
+use Rattle.short_synthesis.proofs.spread.Goals.{After-result-4-1}
+
+abbrev line : List ℤ → Line
+line a =
+    record { v0 = a at 0; v1 = a at 1; v2 = a at 2; v3 = a at 3; v4 = a at 4; v5 = a at 5; v6 = a at 6; v7 = a at 7 }
+
+pub returns : goal.returns
+returns c =
+    let fourth : After-result-4-1 = c.before.before.before.before in
+    let a = fourth.args.a in
+    let f : All (SFits w16) (line a) = search rules in
+    let e = lined_same (λ z. mem w32 (mem w16 z)) (λ z. z) widened (line a) f in
+    record {
+      cells = ap cells e ∙ eight_is a (search rules);
+      words = rw e (all_from (λ z. z) word_yes (line a) f);
+    }
+
+pub overflow_cast-result : goal.overflow_cast-result
+overflow_cast-result c = search (rules, widened_fits)
+
+pub overflow_cast-result-2 : goal.overflow_cast-result-2
+overflow_cast-result-2 c = search (rules, widened_fits)
+
+pub overflow_cast-result-3 : goal.overflow_cast-result-3
+overflow_cast-result-3 c = search (rules, widened_fits)
+
+pub overflow_cast-result-4 : goal.overflow_cast-result-4
+overflow_cast-result-4 c = search (rules, widened_fits)
+
+pub overflow_cast-result-5 : goal.overflow_cast-result-5
+overflow_cast-result-5 c = search (rules, widened_fits)
+
+pub overflow_cast-result-6 : goal.overflow_cast-result-6
+overflow_cast-result-6 c = search (rules, widened_fits)
+
+pub overflow_cast-result-7 : goal.overflow_cast-result-7
+overflow_cast-result-7 c = search (rules, widened_fits)
+
+pub overflow_cast-result-8 : goal.overflow_cast-result-8
+overflow_cast-result-8 c = search (rules, widened_fits)
