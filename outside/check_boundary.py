@@ -182,7 +182,7 @@ def from_there(prefix: str) -> list[str]:
     for name in names:
         given = codewords if 'decode' in name else speech
         expected = peers.ours(name.replace('rpeltp-', ''), given)
-        same_bytes(f'{prefix}: {name}', ('target/bin', expected), ('it', run(os.path.join(prefix, 'bin', name), given)))
+        same_bytes(f'{prefix}: {name}', ('crates', expected), ('it', run(os.path.join(prefix, 'bin', name), given)))
     return names
 
 

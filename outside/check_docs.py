@@ -49,22 +49,28 @@ STOPS = {f'stop{n}' for n in range(1, 9)}
 PLACEHOLDERS = {'NAME', 'CRATE', 'LABEL', 'TYPE', 'FILE', 'TARGET', 'FOLDER', 'F', 'N', 'S', 'X', 'Y', 'D', 'DIR',
                 'ARCHIVE', 'VECTORS', 'ROOT', 'MODE', 'PROGRAM', 'WORDS', 'PATH', 'COMMAND', 'STAGE', 'DEFINITION'}
 # the commands of rt
-RT = set('check prove dev staticlib try must-fail ci goals mir fmt doc version selftest'.split())
+RT = set('''
+    ci must-fail selftest doc version help new check verdict lib run test try fmt tidy plant all expand lemma
+    '''.split())
 # Words of others, which no file here defines.
 OTHERS = {
-    # words of the language of Rattle, and of its types
+    # words of the language of Rattle, of its types and attributes, and of its clauses
     'Rattle, code': '''
-        ghost use pub fn struct enum impl const let mut return loop while if else self repr Copy requires ensures
-        i8 i16 i32 i64 u8 u16 u32 u64 usize bool
+        ghost use pub fn struct enum impl const let mut return loop while for if else self repr Copy requires ensures
+        result now old new tactic auto i8 i16 i32 i64 u8 u16 u32 u64 usize bool
         '''.split(),
     # words of its specs and proofs, its tactics
-    'Rattle, proofs': 'unfoldable unfolding abbrev record where refl omega search rw cc simp κs lib'.split(),
-    # parts of the names that it gives to what is to be proved, as in tie.close; the keys of an .edit file
-    'Rattle, goals': 'tie spec close exit entry After-x Need-returns Need-returns-2 file: old: new:'.split(),
-    # the toolchain: its programs, options and variables, what they print, its library and its guide
+    'Rattle, proofs': 'unfoldable unfolding abbrev record where refl omega search grind rw cc simp elim'.split(),
+    # parts of the names that it gives to goals, places and what is known there, as in c.loop-k.invariant; the keys of
+    # an .edit file
+    'Rattle, goals': '''
+        goal goal. at args ranges fn initial before branch type_inv invariant overflow_add-x f-requires
+        if-n-lt15 Else-n-lt15 if-x-b then-x-b else-x-b loop-k m-bits m-is After-f now-1 x-1 file: old: new:
+        '''.split(),
+    # the toolchain: its programs, options and variables, what they print, its library and its guides
     'Rattle, kit': '''
-        Rattle rattle rt mir --allow-holes --check --deps --generated RT_JOBS RT_CUT RATTLE_HOME KIT-ID
-        logic not-proved libc write_all guides/FIRST_PROOFS.md
+        Rattle rattle rt --allow-holes --generated --start --only --anew RATTLE_HOME KIT-ID logic= axioms not-proved
+        FitsSigned libc write_all rattle_errno rattle/FIRST_PROOFS.md rattle/SHORTER_PROOFS.md
         '''.split(),
     # names in the standard's clause 4 that nothing here is called after
     'the standard': 'L_add L_temp L_result'.split(),

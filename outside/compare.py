@@ -11,7 +11,7 @@
     python3 outside/compare.py --soak SECONDS --seed S   the first again and again, with a new seed in each round, and
                                                          both ends back to back; recordings too, if there are any
 
-Our programs are those of target/bin. The programs in C and in Rust are in build/: outside/check_boundary.py builds
+Our programs are crates/NAME/out/NAME. The programs in C and in Rust are in build/: outside/check_boundary.py builds
 them. The second codec is built from outside/second. Status 1: a difference, or a codec that is missing."""
 from __future__ import annotations
 

@@ -361,12 +361,13 @@ def examples() -> None:
     print(f'bin/rpeltp: the {len(lines)} examples of -h run, from another folder and through a link')
 
 
-# stands for rt: it reads all of its input, says a line and has a program made, or fails
+# stands for rt: it reads all of its input, says a line and has a program made, or fails. It runs in the crate's folder
 RT = """#!/bin/sh
 cat >/dev/null
-echo "rt: $2 proved"
-[ "$2" != encode ] || { echo 'rt: encode NOT PROVED' && exit 1; }
-mkdir -p target/bin && cp "$PROGRAMS/$2" target/bin/
+name=${PWD##*/}
+echo "rt: $name proved"
+[ "$name" != encode ] || { echo 'rt: encode NOT PROVED' && exit 1; }
+mkdir -p out && cp "$PROGRAMS/$name/out/$name" out/
 """
 
 
@@ -378,13 +379,14 @@ def made_first() -> None:
     for path in ('bin/rpeltp', 'outside/make_proved', 'outside/x86_tools'):
         os.makedirs(os.path.join(folder, os.path.dirname(path)), exist_ok=True)
         shutil.copy(os.path.join(ROOT, path), os.path.join(folder, path))
-    os.makedirs(os.path.join(folder, 'path'))
+    for path in ('path', 'crates/expand', 'crates/encode'):
+        os.makedirs(os.path.join(folder, path))
     with open(os.path.join(folder, 'path', 'rt'), 'w', encoding='utf-8') as file:
         file.write(RT)
     os.chmod(file.name, 0o755)
     kit = subprocess.run([X86, 'kit'], stdout=subprocess.PIPE, text=True, check=True).stdout.strip()
-    home = os.path.dirname(os.path.dirname(os.path.dirname(kit)))
-    environment = {**os.environ, 'RATTLE_HOME': home, 'PROGRAMS': os.path.join(ROOT, 'target', 'bin'),
+    home = os.path.dirname(kit)
+    environment = {**os.environ, 'RATTLE_HOME': home, 'PROGRAMS': os.path.join(ROOT, 'crates'),
                    'PATH': os.path.join(folder, 'path') + os.pathsep + os.environ['PATH']}
     program, octets = os.path.join(folder, 'bin', 'rpeltp'), contents(signals.ALAW)
     for proved in (True, False):

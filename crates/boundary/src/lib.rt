@@ -1,6 +1,8 @@
 // Calls from C and Rust: each passes its arguments to the codec and returns the codec's answer. The states and what
 // decode answers are the codec's own; what is an enum inside is a number here. What encode promises here is in
 // specs/Promise.antt, and c/rpeltp.h says all of it to a C programmer. The crate boundary_c exports each of them to C.
+#![tactic(auto)]
+
 ghost use Rattle.std.specs.Prelude.{◌≡◌};
 ghost use Rattle.standard.specs.Alaw.{alaw_samples};
 ghost use Rattle.standard.specs.House.{home_coder, home_decoder};

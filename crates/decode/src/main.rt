@@ -1,4 +1,6 @@
 // Decodes a file of codewords to a file of samples, both in the form of annex A3, from home: SEQxx.COD to SEQxx.OUT.
+#![tactic(auto)]
+
 ghost use Rattle.std.specs.Prelude.{◌≡◌, ◌*◌, ◌≤◌, ◌<◌, length};
 ghost use Rattle.decoder.specs.Promise.{memory};
 ghost use Rattle.io_streams.specs.Frames.{Through};

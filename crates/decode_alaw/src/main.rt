@@ -1,4 +1,6 @@
 // Decodes a file of codewords in the form of annex A3 to a file of A-law octets, from home.
+#![tactic(auto)]
+
 ghost use Rattle.std.specs.Prelude.{◌≡◌, ◌*◌, ◌≤◌, ◌<◌, length};
 ghost use Rattle.decoder.specs.Promise.{memory};
 ghost use Rattle.io_streams.specs.Frames.{Through};

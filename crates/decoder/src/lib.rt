@@ -1,5 +1,7 @@
 // The decoder: its state, home, and decode, which is the whole of 4.3 behind the refusals of the house rules
 // ('Refusals'); and decode_alaw, which leaves octets. What both promise is in specs/Promise.antt.
+#![tactic(auto)]
+
 ghost use Rattle.std.specs.Prelude.{◌≡◌, true, length};
 ghost use Rattle.standard.specs.LongTerm.{is_lag};
 ghost use Rattle.standard.specs.Frame.{received};

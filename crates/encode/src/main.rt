@@ -1,4 +1,6 @@
 // Encodes a file of samples to a file of codewords, both in the form of annex A3, from home: SEQxx.INP to SEQxx.COD.
+#![tactic(auto)]
+
 ghost use Rattle.std.specs.Prelude.{◌≡◌, ◌*◌, ◌≤◌, ◌<◌, length};
 ghost use Rattle.encoder.specs.Promise.{coder};
 ghost use Rattle.io_streams.specs.Frames.{Through};

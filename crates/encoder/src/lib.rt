@@ -1,5 +1,7 @@
 // The encoder: its state, home, and encode, which is the whole of 4.2 behind the refusals of the house rules
 // ('Refusals'); and encode_alaw, which takes octets. What both promise is in specs/Promise.antt.
+#![tactic(auto)]
+
 ghost use Rattle.std.specs.Prelude.{◌≡◌, true, cond, ◌++◌, ◌*◌, ◌≤◌, pos, length, take, replicate};
 ghost use Rattle.std.proofs.Math.Option.{some};
 ghost use Rattle.standard.specs.Frame.{sub_words, words};

@@ -1,5 +1,7 @@
 // 4.2.0 to 4.2.10: what is done once for a frame. From 160 samples it makes the codes of the eight ratios, how the
 // recursion ended, and the 160 samples of the short term residual d.
+#![tactic(auto)]
+
 ghost use Rattle.std.specs.Prelude.{◌≡◌, true, pos, length, replicate};
 ghost use Rattle.math_lists.specs.Every.{every};
 ghost use Rattle.standard.specs.Lpc.{r, ending, ratio_codes};

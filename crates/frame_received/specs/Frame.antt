@@ -2,7 +2,7 @@
 -- 120 are the next frame's history.
 use Rattle.std.specs.Prelude.{◌≡◌, true, ℕ, ◌+◌, ◌≤◌, ℤ, length, take, drop}
 use Rattle.std.proofs.Math.Path.{refl}
-use mathlib.Core.List.{List, [], ◌++◌, append_assoc, append-nil, flatten}
+use mathlib.Core.List.{List, ◌++◌, append_assoc, append-nil, flatten}
 use Rattle.std.proofs.Common.{le_of_eq, arith, length-take, length-drop, length-append, take_all, drop_at}
 use Rattle.math_lists.specs.Scan.{run}
 use Rattle.standard.specs.Frame.{Subframe, places}

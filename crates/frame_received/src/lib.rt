@@ -1,5 +1,7 @@
 // 4.3.1, 4.3.2: from a frame's codewords to its reconstructed samples drp. One buffer holds the history and, after it,
 // the samples that the four sub-frames add. Within a frame nothing is moved.
+#![tactic(auto)]
+
 ghost use Rattle.std.specs.Prelude.{◌≡◌, true, length, take, drop};
 ghost use Rattle.standard.specs.LongTerm.{is_lag};
 ghost use Rattle.frame_received.specs.Received.{sub_lag, sub_extended, frame_lag, frame_extended};

@@ -1,5 +1,7 @@
 // 4.3.3 to 4.3.7 over a frame: the four stretches, each with its own coefficients. Each starts from the cells that the
 // one before returns.
+#![tactic(auto)]
+
 ghost use Rattle.std.specs.Prelude.{◌≡◌, length};
 ghost use Rattle.frame_speech.specs.Four.{frame_spoken};
 

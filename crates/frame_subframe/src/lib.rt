@@ -1,5 +1,7 @@
 // 4.2.11 to 4.2.18: one sub-frame, from 40 samples of d to its 17 codewords and to the samples that it adds to the
 // history.
+#![tactic(auto)]
+
 ghost use Rattle.std.specs.Prelude.{◌≡◌, ◌∷◌, pos, length};
 ghost use Rattle.std.specs.Int.Signed.{lt_z};
 ghost use Rattle.standard.specs.Frame.{sub_words};

@@ -1,5 +1,7 @@
 // The three demands (house rules, 'What counts as shown'): demands 1 and 2 for each call, demand 3 over any sequence of
 // calls of both ends. And `limits`, the only code: it has no effect, its promise is a law of all states and samples.
+#![tactic(auto)]
+
 ghost use Rattle.std.specs.Prelude.{◌≡◌, true, length};
 ghost use Rattle.math_lists.specs.Every.{every};
 ghost use Rattle.standard.specs.House.{sound_coder};

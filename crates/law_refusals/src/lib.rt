@@ -1,1 +1,2 @@
 // Laws of the refusal numbers (house rules, 'Refusals'). No code.
+#![tactic(auto)]

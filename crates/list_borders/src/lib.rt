@@ -1,4 +1,6 @@
 // House rules, 'Listing': the first line of the listing and the last, as bytes.
+#![tactic(auto)]
+
 ghost use Rattle.std.specs.Prelude.{◌≤◌};
 ghost use Rattle.standard.specs.Listing as standard;
 ghost use Rattle.list_text.specs.Written.{Puts};

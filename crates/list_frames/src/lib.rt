@@ -1,5 +1,7 @@
 // The lister: a frame's bytes in, its lines out, the encoder kept from frame to frame. What listed promises is in
 // specs/Promise.antt.
+#![tactic(auto)]
+
 ghost use Rattle.std.specs.Prelude.{◌≡◌, ◌+◌, ◌*◌, ◌≤◌};
 ghost use Rattle.standard.specs.Files.{file_words};
 ghost use Rattle.standard.specs.House.{home_coder};

@@ -1,4 +1,6 @@
 // House rules, 'Listing': the lines of a frame as bytes, from what encode answers.
+#![tactic(auto)]
+
 ghost use Rattle.std.specs.Prelude.{◌≡◌, [], ◌∷◌, ◌++◌, map, ◌+◌, ◌*◌, ◌≤◌, length};
 ghost use Rattle.standard.specs.Listing.{most_frames, decimal, word};
 ghost use Rattle.encoder.specs.Promise.{ending, mark};

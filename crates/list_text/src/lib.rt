@@ -1,4 +1,6 @@
 // Text in a buffer that is passed: each function puts its text from index `at` on and answers the index after it.
+#![tactic(auto)]
+
 ghost use Rattle.std.specs.Prelude.{◌≡◌, ◌∷◌, map, ◌+◌, ◌*◌, ◌≤◌, ◌<◌, nat_abs, length};
 ghost use Rattle.standard.specs.Listing as standard;
 ghost use Rattle.list_text.specs.Written.{Puts};

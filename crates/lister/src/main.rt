@@ -1,4 +1,6 @@
 // House rules, 'Listing': the lister. Samples from standard input, the lines of their frames to standard output.
+#![tactic(auto)]
+
 ghost use Rattle.std.specs.Prelude.{◌≡◌, true, ◌+◌, ◌-◌, ◌*◌, ◌≤◌, length};
 ghost use Rattle.list_text.specs.Written.{Puts};
 ghost use Rattle.list_frames.specs.Promise.{state, listed};

@@ -1,5 +1,7 @@
 // 4.2.12, 4.2.18, 4.3.2, long term filtering: the lag in use, the estimate from the history, the residual, and the
 // samples that a sub-frame adds to the history.
+#![tactic(auto)]
+
 ghost use Rattle.std.specs.Prelude.{◌≡◌, ◌≤◌, length};
 ghost use mathlib.Core.List.{zip_with};
 ghost use Rattle.standard.specs.Arithmetic.{add};

@@ -1,5 +1,7 @@
 // The history of either end: the last 120 samples of dp. Within a frame it stands at the front of one list, and what
 // the four sub-frames add stands after it, so that nothing is moved.
+#![tactic(auto)]
+
 ghost use Rattle.std.specs.Prelude.{◌≡◌, ◌++◌, pos, length, replicate};
 
 // A list of 280: the history, and after it zeros where the four sub-frames store 160 samples.

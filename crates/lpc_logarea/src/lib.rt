@@ -1,4 +1,6 @@
 // 4.2.6, 4.2.7: from the reflection coefficients to the Log.-Area Ratios and their codes.
+#![tactic(auto)]
+
 ghost use Rattle.std.specs.Prelude.{◌≡◌};
 ghost use Rattle.standard.specs.Lpc.{area_ratio, LAR, clamped, LARc, ratio_codes};
 

@@ -1,4 +1,6 @@
 // 4.2.5: the reflection coefficients, by the recursion over P and K, and how it ended.
+#![tactic(auto)]
+
 ghost use Rattle.std.specs.Prelude.{◌≡◌, true, ◌≤◌, pos, replicate};
 ghost use Rattle.std.specs.Int.Signed.{lt_z, le_z};
 ghost use Rattle.standard.specs.Tables.{◌at◌};

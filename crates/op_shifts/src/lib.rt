@@ -1,5 +1,7 @@
 // 4.1: both shifts, of a word and of a long word, and norm, the count of a shift. A right shift rounds down. A left
 // shift keeps the low bits. A negative count shifts in the other direction.
+#![tactic(auto)]
+
 ghost use Rattle.std.specs.Prelude.{◌≡◌, true, ◌^◌, pos, nat_abs};
 ghost use Rattle.std.specs.Int.Signed.{lt_z, shr_z};
 ghost use Rattle.std.specs.Int.{w16, w32};

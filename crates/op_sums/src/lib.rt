@@ -1,5 +1,7 @@
 // Over a list: the largest absolute value, the sum of products, the sum of squares. The sums (b) to (d) never saturate
 // (house rules, 'Six sums'), so these are plain additions, which the compiler turns into vector code.
+#![tactic(auto)]
+
 ghost use Rattle.std.specs.Prelude.{◌≡◌, cond, ◌*◌, ◌-◌, ◌^◌, ◌<◌, ◌≤◌, pos, length};
 ghost use Rattle.std.specs.Int.Signed.{lt_z};
 ghost use Rattle.standard.specs.Arithmetic.{peak, L_sum, L_squares};

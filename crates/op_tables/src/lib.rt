@@ -1,5 +1,7 @@
 // 4.4: the tables, as constant arrays. Coefficient i of tables 4.1 and 4.2, from 1 to 8, stands at index i - 1. Beyond
 // its end a table gives 0, in the definition too, so the caller has nothing to prove.
+#![tactic(auto)]
+
 ghost use Rattle.std.specs.Prelude.{◌≡◌};
 ghost use Rattle.standard.specs.Tables.{◌at◌};
 ghost use Rattle.standard.specs.Tables as table;

@@ -1,5 +1,7 @@
 // 4.1: the operations whose result is a word, and a word as an index. Each promise is that the result is the
 // standard's, exact at the ends of the range.
+#![tactic(auto)]
+
 ghost use Rattle.std.specs.Prelude.{◌≡◌};
 ghost use Rattle.std.specs.Int.{w16};
 ghost use Rattle.math_integers.specs.Halves.{P};

@@ -1,5 +1,7 @@
 // House rules, 'Packing': the packed frame, 76 codewords in 33 bytes, b1 in the lowest bit of the first byte. Each call
 // answers a refusal number ('Refusals'). A number other than 0 leaves the buffer that was passed as it was.
+#![tactic(auto)]
+
 ghost use Rattle.std.specs.Prelude.{◌≡◌, true, not, [], ◌∷◌, ◌+◌, ◌*◌, ◌^◌, ◌≤◌, ◌<◌, eqb, length, get_or};
 ghost use Rattle.standard.specs.Frame.{widths};
 ghost use Rattle.standard.specs.Packed.{packed, unpacked};

@@ -1,5 +1,7 @@
 // A-law (request W-204; house rules, 'A-law'): the 13-bit value of a code, the code of a value, the samples that octets
 // stand for, and the octets of samples.
+#![tactic(auto)]
+
 ghost use Rattle.std.specs.Prelude.{◌≡◌, ◌<◌, ◌≤◌, min, pos, ◌*ℤ◌, nat_abs, length};
 ghost use Rattle.math_lists.specs.Tab.{tab};
 ghost use Rattle.standard.specs.Alaw.{expanded, placed, compressed, alaw_samples, alaw_octets};

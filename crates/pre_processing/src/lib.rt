@@ -1,5 +1,7 @@
 // 4.2.1 to 4.2.3: downscaling, offset compensation, pre-emphasis. From a sound state the offset filter never saturates
 // (house rules, 'Six sums' (a)). So its multiplication of 31 by 16 bits and its sums are plain ones on 32 bits.
+#![tactic(auto)]
+
 ghost use Rattle.std.specs.Prelude.{◌≡◌, true, ◌≤◌, pos, ◌+ℤ◌, ◌*ℤ◌, nat_abs, length};
 ghost use Rattle.math_lists.specs.Scan.{run};
 ghost use Rattle.std.specs.Int.Signed.{shr_z};

@@ -3,7 +3,7 @@ use Rattle.std.specs.Prelude.{ℕ, ◌*◌, ◌≤◌, ◌≡◌, refl, true, le
 use Rattle.std.proofs.Common.{ap, arith, mul-le-mul, SFits, to_z, leb-true}
 use Rattle.std.specs.Int.Signed.{le_z}
 use Rattle.std.specs.Int.{w16}
-use Rattle.math_integers.specs.Halves.{P, N, apart, zar, know}
+use Rattle.math_integers.specs.Halves.{P, N, zar, know}
 use Rattle.math_integers.specs.Sums.{add_is, mul_is, shr_is}
 use Rattle.math_lists.specs.Every.{every, every_tab}
 use Rattle.math_lists.specs.Tab.{tab}

@@ -1,5 +1,5 @@
 -- No left shift of 4.2.16 loses a bit: in the range that occurs in the codec, each is the plain product.
-use Rattle.std.specs.Prelude.{ℕ, ◌^◌, ◌<◌, ◌≤◌, ◌≡◌, true, ℤ, pos, ◌-ℤ◌, ◌*ℤ◌, nat_abs}
+use Rattle.std.specs.Prelude.{ℕ, ◌^◌, ◌≤◌, ◌≡◌, true, ℤ, pos, ◌-ℤ◌, ◌*ℤ◌, nat_abs}
 use Rattle.std.proofs.Common.{arith, pow_mono}
 use Rattle.std.specs.Int.Signed.{le_z}
 use Rattle.std.specs.Int.{w16}

@@ -1,4 +1,6 @@
 // 4.2.16, 4.2.17: from a block amplitude and its pulses' codes back to the samples on the grid, as both ends do it.
+#![tactic(auto)]
+
 ghost use Rattle.std.specs.Prelude.{◌≡◌, true, ◌≤◌, pos};
 ghost use Rattle.std.specs.Int.Signed.{le_z};
 ghost use Rattle.std.specs.Int.{w16};

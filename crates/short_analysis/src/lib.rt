@@ -1,6 +1,8 @@
 // 4.2.10: short term analysis filtering. The standard takes each sample through the eight sections. A section needs
 // nothing from a later section. So here each section takes all 160 samples, and the compiler can compute several at
 // once.
+#![tactic(auto)]
+
 ghost use Rattle.std.specs.Prelude.{◌<◌, ◌≡◌, true, pos, length, drop, replicate};
 ghost use mathlib.Core.List.{◌∷◌, zip};
 ghost use Rattle.math_lists.specs.Every.{every};

@@ -1,5 +1,7 @@
 // 4.2.8, 4.2.9: the decoded ratios, their interpolation and the coefficients of both lattices; and a coefficient's
 // product, which both take.
+#![tactic(auto)]
+
 ghost use Rattle.std.specs.Prelude.{◌≡◌, true, pos};
 ghost use Rattle.std.specs.Int.Signed.{le_z};
 ghost use Rattle.standard.specs.Arithmetic.{mult_r};

@@ -13,7 +13,7 @@ use Rattle.law_arithmetic.specs.Product.{mult_r_plain}
 use Rattle.law_arithmetic.specs.Within.{range_is, word, word_is, word_yes}
 use Rattle.short_ratios.specs.Bounds.{factor, factor_is}
 use Rattle.short_synthesis.specs.declared.Line.{Line}
-use Rattle.short_synthesis.specs.Lattice.{word_back, factor_back, lined, Each, Held, all_from, Passed}
+use Rattle.short_synthesis.specs.Lattice.{word_back, factor_back, widened, lined, Each, Held, all_from, Passed}
 
 -- the word that such a number stands for
 abbrev pub low : ℤ → ℤ
@@ -75,6 +75,13 @@ low_fits z h = rw (lifted_back z h) (omega (zar, know (word_is (low z) h)))
 
 pub low_is : (z : ℤ) → lifted z ≡ true → mem w32 (mem w32 z -ℤ pos 32768) ≡ low z
 low_is z h = back (low_fits z h) ∙ rw (lifted_back z h)
+
+-- a sample that is read gets the bias
+pub sample_fits : (x : ℤ) → SFits w16 x → SFits w32 (mem w32 (mem w16 x) +ℤ pos 32768)
+sample_fits x f = rw (widened x f) (omega (zar, know f, add_is x (pos 32768)))
+
+pub sample_is : (x : ℤ) → SFits w16 x → low (mem w32 (mem w32 (mem w16 x) +ℤ pos 32768)) ≡ x
+sample_is x f = rw (back (sample_fits x f), widened x f) (omega (zar, add_is x (pos 32768), minus_is (x +ℤ pos 32768) (pos 32768)))
 
 -- ---- sums: the bias stays in a sum or a difference with a plain term
 

@@ -2,6 +2,8 @@
 // another. In the lattice each step needs the result of the one before, so the lattice decides the decoder's speed.
 // Therefore a sample is first computed with plain sums. They nearly always stay in 16 bits. If one does not, the sample
 // is computed again with the sums of 4.3.4, which saturate.
+#![tactic(auto)]
+
 ghost use Rattle.std.specs.Prelude.{◌≡◌, true, ◌+◌, ◌+ℤ◌, ◌-ℤ◌, length};
 ghost use Rattle.std.specs.Int.{w16};
 ghost use Rattle.math_lists.specs.Every.{every};
@@ -248,15 +250,15 @@ struct Attempt {
 
 // The eighth section comes first. No cell above it is kept.
 fn entered(rrp: i32, c: i32, v: i32, wt: i32) -> Attempt
-    requires { (factor rrp ≡ true) × (c ≡ offset rrp) × (lifted v ≡ true) × (word wt ≡ true) }
+    requires { (factor rrp ≡ true) × (c ≡ offset rrp) × (lifted v ≡ true) × (lifted wt ≡ true) }
     ensures out { lifted result.out ≡ true }
-    ensures fits { result.fits ≡ true → low result.out ≡ sub wt (mult_r rrp (low v)) }
+    ensures fits { result.fits ≡ true → low result.out ≡ sub (low wt) (mult_r rrp (low v)) }
 {
-    let out = entering(rrp, c, v, wt);
+    let out = entering(rrp, c, v, wt - 32768);
     if !is_lifted(out) {
         return Attempt {
-            out: v,
-            above: v,
+            out: wt,
+            above: wt,
             fits: false,
         };
     }
@@ -303,8 +305,8 @@ struct Sample {
 
 // The eight sections by plain sums.
 fn plain(r: Line, c: Line, v: Line, wt: i32) -> Sample
-    requires { Each factor r × (c ≡ lined offset r) × Each word (base v) × (word wt ≡ true) }
-    ensures { result.fits ≡ true → cells (base result.line) ≡ (synthesised (cells (base v)) (cells r, wt)).0 }
+    requires { Each factor r × (c ≡ lined offset r) × Each word (base v) × (lifted wt ≡ true) }
+    ensures { result.fits ≡ true → cells (base result.line) ≡ (synthesised (cells (base v)) (cells r, low wt)).0 }
 {
     let s7 = entered(r.v7, c.v7, v.v7, wt);
     let s6 = tried(r.v6, c.v6, v.v6, s7);
@@ -347,15 +349,15 @@ fn same(l: Line) -> Line
 
 // 4.3.4: one sample through the eight sections. v0 of what it gives is also sr[k].
 fn lattice(r: Line, c: Line, v: Line, wt: i32) -> Line
-    requires { Each factor r × (c ≡ lined offset r) × Each word (base v) × (word wt ≡ true) }
-    ensures { cells (base result) ≡ (synthesised (cells (base v)) (cells r, wt)).0 }
+    requires { Each factor r × (c ≡ lined offset r) × Each word (base v) × (lifted wt ≡ true) }
+    ensures { cells (base result) ≡ (synthesised (cells (base v)) (cells r, low wt)).0 }
 {
     let p = plain(r, c, v, wt);
     if p.fits {
         let l = p.line;
         return same(l);
     }
-    let z = limited(same(r), without_bias(v), wt);
+    let z = limited(same(r), without_bias(v), wt - 32768);
     with_bias(z)
 }
 
@@ -397,7 +399,7 @@ pub fn stretch(s: Cells, rrp: [i16; 8], wt: &[i16], srop: &mut [i16]) -> Cells
     let mut v = with_bias(spread(before));
     let mut msr = s.msr as i32;
     for k in 0..wt.len() {
-        v = lattice(rp, c, v, wt[k] as i32);
+        v = lattice(rp, c, v, wt[k] as i32 + 32768);
         msr = de_emphasis(msr, v.v0);
         srop[k] = msr as i16;
     }

@@ -1,1 +1,2 @@
 // Real frames through the definitions; no code.
+#![tactic(auto)]

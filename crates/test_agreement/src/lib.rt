@@ -1,5 +1,7 @@
 // Tests of what is claimed of both ends, made on the words themselves: two rows of words are the same; the four lags
 // are in range. Also sets bits beside the fields of a frame (stray bits), to try that the decoder does not use them.
+#![tactic(auto)]
+
 ghost use Rattle.std.specs.Prelude.{◌≡◌, true, ◌↔◌, ◌^◌, ◌≤◌, pos, ◌+ℤ◌, ◌*ℤ◌, length};
 ghost use Rattle.math_lists.specs.Every.{every};
 ghost use Rattle.standard.specs.Arithmetic.{within};

@@ -1,6 +1,8 @@
 // 4.1: the operations on long words that no stage calls: the codec adds plainly, and its sums are proved to be these.
 // The program test_operations compares them with those of other codecs. All is done on 32 bits: before a sum is made,
 // one operand is compared with the limit less the other operand.
+#![tactic(auto)]
+
 ghost use Rattle.std.specs.Prelude.{◌≡◌};
 ghost use Rattle.std.specs.Int.{w16};
 ghost use Rattle.standard.specs.Arithmetic.{L_add, L_sub, L_mult, keep};

@@ -2,6 +2,7 @@
 // every code and every value of 13 bits through A-law, and prints the results. The stored output is written by
 // outside/compare_operations.py, never by this program. Each function that prints says whether it could; if not, all
 // stops.
+#![tactic(auto)]
 
 const WORDS: [i16; 20] = [
     -32768, -32767, -32766, -28180, -16385, -16384, -16383, -4097, -2, -1, 0, 1, 2, 511, 8191,
@@ -91,73 +92,58 @@ fn value(i: usize, j: usize) -> i16 {
     op_words::sub((32 * (i % 256) + j % 32) as i16, 4096)
 }
 
-// The absolute value of a number. That of the least number does not fit an i32. So 1 is added before the sign is
-// changed, and again after it.
-fn size(n: i32) -> u32 {
-    if n < 0 {
-        (0 - (n + 1)) as u32 + 1
-    } else {
-        n as u32
-    }
+// A tab and the number.
+fn print_long(rt: &impl Print, n: i32) -> bool {
+    print!(rt; "\t{n}").is_ok()
 }
 
-// A tab and the number. The toolchain has no printer of a u32.
-fn print_long(n: i32) -> bool {
-    let led = if n < 0 {
-        io::write_all(1, b"\t-")
-    } else {
-        io::write_all(1, b"\t")
-    };
-    led && io::print_decimal(1, size(n) as u64)
-}
-
-fn print_word(n: i16) -> bool {
-    print_long(test_longs::long_word(n))
+fn print_word(rt: &impl Print, n: i16) -> bool {
+    print_long(rt, test_longs::long_word(n))
 }
 
 // How a row begins, with its name and its first argument, and how it ends.
-fn print_label(name: &[u8], first: i32) -> bool {
-    io::write_all(1, name) && print_long(first)
+fn print_label(rt: &impl Print, name: &[u8], first: i32) -> bool {
+    rt.write_all(name).is_ok() && print_long(rt, first)
 }
 
-fn end_row() -> bool {
-    io::write_all(1, b"\n")
+fn end_row(rt: &impl Print) -> bool {
+    rt.write_all(b"\n").is_ok()
 }
 
 // Only a positive number has a norm; for another nothing is printed.
-fn print_norm(n: i32) -> bool {
+fn print_norm(rt: &impl Print, n: i32) -> bool {
     if 0 < n {
-        print_word(op_shifts::norm(n))
+        print_word(rt, op_shifts::norm(n))
     } else {
         true
     }
 }
 
 // The list's entry for its argument i.
-fn print_item(list: List, i: usize) -> bool {
+fn print_item(rt: &impl Print, list: List, i: usize) -> bool {
     let a = word(i);
     let x = long(i);
     match list {
-        List::Words => print_word(a),
-        List::Longs => print_long(x),
-        List::Counts => print_word(count(i)),
-        List::Abs => print_word(op_words::abs(a)),
-        List::LongWord => print_long(test_longs::long_word(a)),
-        List::LowWord => print_word(test_longs::low_word(x)),
-        List::Norm => print_norm(x),
+        List::Words => print_word(rt, a),
+        List::Longs => print_long(rt, x),
+        List::Counts => print_word(rt, count(i)),
+        List::Abs => print_word(rt, op_words::abs(a)),
+        List::LongWord => print_long(rt, test_longs::long_word(a)),
+        List::LowWord => print_word(rt, test_longs::low_word(x)),
+        List::Norm => print_norm(rt, x),
     }
 }
 
-fn print_list(name: &[u8], list: List) -> bool {
-    if !io::write_all(1, name) {
+fn print_list(rt: &impl Print, name: &[u8], list: List) -> bool {
+    if rt.write_all(name).is_err() {
         return false;
     }
     for i in 0..20usize {
-        if !print_item(list, i) {
+        if !print_item(rt, list, i) {
             return false;
         }
     }
-    end_row()
+    end_row(rt)
 }
 
 // The table's first argument i.
@@ -196,21 +182,21 @@ fn cell(table: Table, i: usize, j: usize) -> i32 {
     }
 }
 
-fn print_row(name: &[u8], table: Table, i: usize, width: usize) -> bool {
-    if !print_label(name, first(table, i)) {
+fn print_row(rt: &impl Print, name: &[u8], table: Table, i: usize, width: usize) -> bool {
+    if !print_label(rt, name, first(table, i)) {
         return false;
     }
     for j in 0..width {
-        if !print_long(cell(table, i, j)) {
+        if !print_long(rt, cell(table, i, j)) {
             return false;
         }
     }
-    end_row()
+    end_row(rt)
 }
 
-fn print_rows(name: &[u8], table: Table, rows: usize, width: usize) -> bool {
+fn print_rows(rt: &impl Print, name: &[u8], table: Table, rows: usize, width: usize) -> bool {
     for i in 0..rows {
-        if !print_row(name, table, i, width) {
+        if !print_row(rt, name, table, i, width) {
             return false;
         }
     }
@@ -218,55 +204,55 @@ fn print_rows(name: &[u8], table: Table, rows: usize, width: usize) -> bool {
 }
 
 // An operation's table, of every argument with every other.
-fn print_table(name: &[u8], table: Table) -> bool {
-    print_rows(name, table, 20, 20)
+fn print_table(rt: &impl Print, name: &[u8], table: Table) -> bool {
+    print_rows(rt, name, table, 20, 20)
 }
 
-fn print_arguments() -> bool {
-    print_list(b"words", List::Words)
-        && print_list(b"longs", List::Longs)
-        && print_list(b"counts", List::Counts)
+fn print_arguments(rt: &impl Print) -> bool {
+    print_list(rt, b"words", List::Words)
+        && print_list(rt, b"longs", List::Longs)
+        && print_list(rt, b"counts", List::Counts)
 }
 
-fn print_word_pairs() -> bool {
-    print_table(b"add", Table::Add)
-        && print_table(b"sub", Table::Sub)
-        && print_table(b"mult", Table::Mult)
-        && print_table(b"mult_r", Table::MultR)
-        && print_table(b"div", Table::Div)
-        && print_table(b"l_mult", Table::LMult)
+fn print_word_pairs(rt: &impl Print) -> bool {
+    print_table(rt, b"add", Table::Add)
+        && print_table(rt, b"sub", Table::Sub)
+        && print_table(rt, b"mult", Table::Mult)
+        && print_table(rt, b"mult_r", Table::MultR)
+        && print_table(rt, b"div", Table::Div)
+        && print_table(rt, b"l_mult", Table::LMult)
 }
 
-fn print_long_pairs() -> bool {
-    print_table(b"l_add", Table::LAdd) && print_table(b"l_sub", Table::LSub)
+fn print_long_pairs(rt: &impl Print) -> bool {
+    print_table(rt, b"l_add", Table::LAdd) && print_table(rt, b"l_sub", Table::LSub)
 }
 
-fn print_shifts() -> bool {
-    print_table(b"shr", Table::Shr)
-        && print_table(b"shl", Table::Shl)
-        && print_table(b"l_shr", Table::LShr)
-        && print_table(b"l_shl", Table::LShl)
+fn print_shifts(rt: &impl Print) -> bool {
+    print_table(rt, b"shr", Table::Shr)
+        && print_table(rt, b"shl", Table::Shl)
+        && print_table(rt, b"l_shr", Table::LShr)
+        && print_table(rt, b"l_shl", Table::LShl)
 }
 
-fn print_singles() -> bool {
-    print_list(b"abs", List::Abs)
-        && print_list(b"long_word", List::LongWord)
-        && print_list(b"low_word", List::LowWord)
-        && print_list(b"norm", List::Norm)
+fn print_singles(rt: &impl Print) -> bool {
+    print_list(rt, b"abs", List::Abs)
+        && print_list(rt, b"long_word", List::LongWord)
+        && print_list(rt, b"low_word", List::LowWord)
+        && print_list(rt, b"norm", List::Norm)
 }
 
-fn print_alaw() -> bool {
-    print_rows(b"expand", Table::Expand, 16, 16)
-        && print_rows(b"compress", Table::Compress, 256, 32)
+fn print_alaw(rt: &impl Print) -> bool {
+    print_rows(rt, b"expand", Table::Expand, 16, 16)
+        && print_rows(rt, b"compress", Table::Compress, 256, 32)
 }
 
-fn main() {
-    if print_arguments()
-        && print_word_pairs()
-        && print_long_pairs()
-        && print_shifts()
-        && print_singles()
+fn main(rt: HostRuntime) {
+    if print_arguments(&rt)
+        && print_word_pairs(&rt)
+        && print_long_pairs(&rt)
+        && print_shifts(&rt)
+        && print_singles(&rt)
     {
-        print_alaw();
+        print_alaw(&rt);
     }
 }

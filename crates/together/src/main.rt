@@ -1,6 +1,8 @@
 // Both ends back to back on a recording, each from home. On two frames of three, stray bits are set on the way from one
 // end to the other. After each frame the program tests what is claimed of both ends and prints a line: the frame, stray
 // or plain, the loudest sample of the history, and the verdict.
+#![tactic(auto)]
+
 ghost use Rattle.std.specs.Prelude.{◌≡◌, true, cond, ◌↔◌, ◌+◌, ◌*◌, ◌≤◌, ◌<◌, length, pos};
 ghost use Rattle.standard.specs.Arithmetic.{within};
 ghost use Rattle.standard.specs.Tables.{neg};

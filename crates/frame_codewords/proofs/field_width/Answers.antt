@@ -1,5 +1,4 @@
 -- Three cases of i: the eight ratios, the sub-frames by the remainder modulo 17, and past the end.
-use borrow.Author.Rules.{rules}
 use mathlib.Core.Path.{◌∙◌}
 use mathlib.Core.List.{flatten}
 use native.Mathlib.Omega.{arith}

@@ -1,14 +1,8 @@
 -- The parts that are left decide the whole: a part that does not fit makes the answer false, one that fits leaves the rest.
-use Prim.Native.Nat.{ℕ, ◌+◌, ◌*◌, ◌-◌, ◌≤◌}
-use mathlib.Core.Path.{◌≡◌, sym, ◌∙◌}
-use mathlib.Core.Bool.{◌&&◌}
-use native.Mathlib.Omega.{arith}
-use lib.ListN.{length-take, length-drop}
-use borrow.Author.Rules.{rules}
-use borrow.Author.Tests.{not-true, not-false}
-use Rattle.math_integers.specs.Needs.{by_4}
+use Prim.Native.Nat.{◌+◌, ◌*◌, ◌-◌, ◌≤◌}
+use mathlib.Core.Path.{◌≡◌}
 use Rattle.standard.specs.House.{fits}
-use Rattle.frame_codewords.specs.Fitting.{fit_from, fits_ratios, fits_sub, fits_last}
+use Rattle.frame_codewords.specs.Fitting.{fit_from}
 use Rattle.frame_codewords.proofs.fits.Given as goal
 
 abbrev pub invariant-loop-j : goal.invariant-loop-j

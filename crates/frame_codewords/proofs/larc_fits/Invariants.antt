@@ -1,15 +1,7 @@
 -- Iteration i tests codeword i, and a test that fails makes the answer false. The width is at most 7, as `fit` asks.
 use Prim.Native.Nat.{◌-◌}
-use mathlib.Core.Path.{refl, ◌∙◌}
-use mathlib.Core.Bool.{and-true, and-false}
-use mathlib.Core.Logic.{⊎_elim}
-use native.Mathlib.Omega.{arith}
-use borrow.Author.Rules.{rules, sfits_of}
-use borrow.Author.Tests.{not-true, not-false}
-use Rattle.math_integers.specs.Ranges.{back}
 use Rattle.standard.specs.Tables.{LARc_widths}
-use Rattle.frame_codewords.specs.Fitting.{Fitting, fitting_start, fitting_next, fitting_end}
-use Rattle.frame_codewords.specs.Widths.{LARc_most}
+use Rattle.frame_codewords.specs.Fitting.{Fitting}
 use Rattle.frame_codewords.proofs.larc_fits.Given as goal
 
 abbrev pub invariant-loop-i : goal.invariant-loop-i

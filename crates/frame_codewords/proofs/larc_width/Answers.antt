@@ -1,5 +1,4 @@
 -- Below 8 the code's table is `LARc_widths` itself. From 8 on the list has ended, so `get_or` gives 0.
-use borrow.Author.Rules.{rules}
 use mathlib.Core.Path.{refl}
 use Rattle.standard.specs.Tables.{LARc_widths}
 use Rattle.op_tables.specs.Facts.{past_end}

@@ -1,5 +1,4 @@
 -- The sum with 65536 is positive and fits, and its remainder modulo 2^width is that of the codeword (`word_raised`).
-use borrow.Author.Rules.{rules}
 use Prim.Native.Nat.{◌*◌, ◌%◌, ◌^◌}
 use mathlib.Core.Path.{◌≡◌, sym, ap, ◌∙◌}
 use lib.IntN.{pos, ◌+ℤ◌, nat_abs}

@@ -1,14 +1,12 @@
 -- Iteration i tests codeword i, and a test that fails makes the answer false. The width is at most 7, as `fit` asks.
-use Prim.Native.Nat.{◌-◌}
 use mathlib.Core.Path.{refl, ◌∙◌}
 use mathlib.Core.Bool.{and-true, and-false}
 use native.Mathlib.Omega.{arith}
-use borrow.Author.Rules.{rules, sfits_of}
-use borrow.Author.Tests.{not-true, not-false}
+use borrow.Author.Rules.{sfits_of}
 use Rattle.math_integers.specs.Ranges.{back}
 use mir.Syntax.{w16}
 use Rattle.standard.specs.Frame.{sub_widths}
-use Rattle.frame_codewords.specs.Fitting.{Fitting, fitting_start, fitting_next, fitting_end}
+use Rattle.frame_codewords.specs.Fitting.{fitting_start, fitting_next, fitting_end}
 use Rattle.frame_codewords.specs.Widths.{sub_most}
 use Rattle.frame_codewords.proofs.sub_fits.Goals as goal
 use Rattle.frame_codewords.proofs.sub_fits.Goals.{then-not-fit, else-not-fit}

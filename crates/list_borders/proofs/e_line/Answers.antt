@@ -2,8 +2,6 @@
 -- is put behind the one before (`puts_then`), and together they have at most 30 bytes.
 use Prim.Native.Nat.{◌≤◌}
 use native.Mathlib.Omega.{arith}
-use borrow.Author.Rules.{rules}
-use Rattle.math_integers.specs.Needs.{by_4}
 use Rattle.standard.specs.Listing.{text}
 use Rattle.list_text.specs.Written.{puts_then}
 use Rattle.list_borders.specs.Borders.{E_limit, E_end}

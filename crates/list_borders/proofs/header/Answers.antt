@@ -1,6 +1,5 @@
 -- The law `header_is` computes the header's text; it is the bytes that are put.
 use native.Mathlib.Omega.{arith}
-use borrow.Author.Rules.{rules}
 use Rattle.standard.specs.Listing.{text}
 use Rattle.list_borders.specs.Borders.{header_is}
 use Rattle.list_borders.proofs.header.Goals as goal

@@ -1,7 +1,6 @@
 -- Below 31 the machine's shift is the division rounded down (`down_bits`). From 31 on every shift gives what 31 gives (`down_all`).
 use mathlib.Core.Path.{sym, ◌∙◌}
 use native.Mathlib.Omega.{arith}
-use borrow.Author.Rules.{rules}
 use mir.Syntax.{w32}
 use Rattle.law_arithmetic.specs.Shift.{down_bits, down_all}
 use Rattle.op_shifts.proofs.down_long.Goals as goal

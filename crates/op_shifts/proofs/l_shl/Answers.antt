@@ -1,5 +1,4 @@
 -- The sign of the count decides: by `shl_right` a negative count is a right shift by its size, by `shl_left` any other is a left shift.
-use borrow.Author.Rules.{rules}
 use mir.Syntax.{w32}
 use Rattle.math_integers.specs.Ranges.{back, res}
 use Rattle.law_arithmetic.specs.Shift.{shl_right, shl_left}

@@ -4,7 +4,6 @@ use native.Mathlib.Omega.{arith}
 use lib.IntN.{ℤ}
 use mir.Syntax.{w16, w32}
 use mir.Val.{SFits}
-use borrow.Author.Rules.{rules}
 use Rattle.math_integers.specs.Halves.{zar, mem, know}
 use Rattle.math_integers.specs.Sums.{shr_is}
 use Rattle.math_integers.specs.Ranges.{wide, back, res}

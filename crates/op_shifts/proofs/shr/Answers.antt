@@ -1,5 +1,4 @@
 -- The sign of the count decides: by `shr_left` a negative count is a left shift by its size, by `shr_right` any other is a right shift.
-use borrow.Author.Rules.{rules}
 use mir.Syntax.{w16}
 use Rattle.math_integers.specs.Ranges.{back, res}
 use Rattle.law_arithmetic.specs.Shift.{shr_left, shr_right}

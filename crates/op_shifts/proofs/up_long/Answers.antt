@@ -1,7 +1,6 @@
 -- Below 32 the machine's shift keeps the low bits of the product by 2 ^ n (`up_bits`). From 32 on the low bits are 0 (`up_all`).
 use mathlib.Core.Path.{sym}
 use native.Mathlib.Omega.{arith}
-use borrow.Author.Rules.{rules}
 use mir.Syntax.{w32}
 use Rattle.law_arithmetic.specs.Shift.{up_bits, up_all}
 use Rattle.op_shifts.proofs.up_long.Goals as goal

@@ -1,13 +1,13 @@
 -- The invariant is the plain sum of the squares so far (`Sum`). It cannot saturate, because the `requires` bounds all squares together; it
 -- is doubled at the end.
-use Prim.Native.Nat.{ℕ, ◌-◌, ◌*◌, ◌^◌, ◌≤◌, ◌<◌}
+use Prim.Native.Nat.{ℕ, ◌*◌, ◌^◌, ◌≤◌, ◌<◌}
 use mathlib.Core.Path.{◌≡◌, refl, ◌∙◌}
-use mathlib.Core.List.{List, map}
+use mathlib.Core.List.{List}
 use native.Mathlib.Omega.{arith}
 use lib.IntN.{ℤ, pos, ◌*ℤ◌, nat_abs}
 use lib.ListN.{length, length-map}
 use mir.Syntax.{w16, w32}
-use mir.Val.{SFits, to_z}
+use mir.Val.{SFits}
 use borrow.Author.Rules.{rules}
 use Rattle.math_integers.specs.Halves.{zar, mem}
 use Rattle.math_integers.specs.Ranges.{back, wide, shr_fits, product_fits}
@@ -15,7 +15,7 @@ use Rattle.math_lists.specs.Tab.{map_at}
 use Rattle.standard.specs.Arithmetic.{◌>>◌, L_squares}
 use Rattle.standard.specs.Tables.{◌at◌}
 use Rattle.op_sums.specs.Squares.{square_in}
-use Rattle.op_sums.specs.Along.{Sum, sum_start, sum_room, sum_next, sum_fits, sum_end}
+use Rattle.op_sums.specs.Along.{sum_start, sum_room, sum_next, sum_fits, sum_end}
 use Rattle.op_sums.proofs.l_squares.Invariants.{wt, most}
 use Rattle.op_sums.proofs.l_squares.Goals as goal
 use Rattle.op_sums.proofs.l_squares.Goals.{After-loop-i, After-wt-1, Start}

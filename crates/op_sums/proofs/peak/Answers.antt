@@ -1,5 +1,5 @@
 -- The invariant: max is the largest absolute value of the first k samples. One more is above it (`largest_new`) or not (`largest_old`).
-use Prim.Native.Nat.{◌+◌, ◌-◌, ◌≤◌, ◌<◌}
+use Prim.Native.Nat.{◌+◌, ◌<◌}
 use mathlib.Core.Path.{◌≡◌, refl, sym, ap, ◌∙◌}
 use mathlib.Core.List.{map}
 use native.Mathlib.Omega.{arith}

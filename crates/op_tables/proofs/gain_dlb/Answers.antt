@@ -1,5 +1,4 @@
 -- The array and DLB of the definition are the same 4 numbers, by computation; beyond the end both give 0 (`past_end`).
-use borrow.Author.Rules.{rules}
 use Rattle.standard.specs.Tables.{DLB}
 use Rattle.op_tables.specs.Facts.{entry, past_end}
 use Rattle.op_tables.proofs.gain_dlb.Goals as goal

@@ -1,5 +1,4 @@
 -- The array and A of the definition are the same 8 numbers, by computation; beyond the end both give 0 (`past_end`).
-use borrow.Author.Rules.{rules}
 use Rattle.standard.specs.Tables.{A}
 use Rattle.op_tables.specs.Facts.{entry, past_end}
 use Rattle.op_tables.proofs.lar_a.Goals as goal

@@ -1,5 +1,4 @@
 -- The array and NRFAC of the definition are the same 8 numbers, by computation; beyond the end both give 0 (`past_end`).
-use borrow.Author.Rules.{rules}
 use Rattle.standard.specs.Tables.{NRFAC}
 use Rattle.op_tables.specs.Facts.{entry, past_end}
 use Rattle.op_tables.proofs.mantissa_nrfac.Goals as goal

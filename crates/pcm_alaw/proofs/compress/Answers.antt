@@ -2,7 +2,6 @@
 use Prim.Native.Nat.{◌+◌}
 use mathlib.Core.Path.{◌≡◌, sym, ap, ◌∙◌}
 use native.Mathlib.Omega.{arith}
-use borrow.Author.Rules.{rules}
 use Rattle.math_integers.specs.Halves.{zar, know}
 use Rattle.math_integers.specs.Ranges.{back}
 use Rattle.standard.specs.Alaw.{turned, placed, limited}

@@ -3,7 +3,7 @@ use mir.Syntax.{w16}
 use Prim.Native.Nat.{ℕ}
 use mathlib.Core.Path.{ap₂, ◌∙◌}
 use mathlib.Core.List.{List}
-use borrow.Author.Rules.{rules, sfits_of}
+use borrow.Author.Rules.{sfits_of}
 use lib.IntN.{ℤ, pos}
 use lib.ListN.{get_or}
 use Rattle.math_integers.specs.Ranges.{back}

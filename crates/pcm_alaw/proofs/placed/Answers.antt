@@ -2,7 +2,6 @@
 use Prim.Native.Nat.{◌<◌}
 use mathlib.Core.Path.{◌≡◌, sym, ◌∙◌}
 use native.Mathlib.Omega.{arith}
-use borrow.Author.Rules.{rules}
 use Rattle.standard.specs.Alaw.{placed}
 use Rattle.pcm_alaw.specs.Rules.{lines, placed_lines, placed_below}
 use Rattle.pcm_alaw.proofs.placed.Goals as goal

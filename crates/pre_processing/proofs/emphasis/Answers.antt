@@ -1,15 +1,13 @@
 -- Iteration k makes one step of the definition's run, from `last`, which is the sample before.
-use Prim.Native.Nat.{◌-◌, ◌≤◌}
-use mathlib.Core.Path.{◌≡◌, refl, ◌∙◌}
+use mathlib.Core.Path.{refl, ◌∙◌}
 use native.Mathlib.Omega.{arith}
-use borrow.Author.Rules.{rules, sfits_of}
+use borrow.Author.Rules.{sfits_of}
 use lib.IntN.{pos}
-use lib.ListN.{length, length-set}
+use lib.ListN.{length-set}
 use mir.Syntax.{w16}
-use mir.Val.{SFits, to_z}
+use mir.Val.{SFits}
 use Rattle.math_integers.specs.Ranges.{back, res}
-use Rattle.math_integers.specs.Needs.{by_8}
-use Rattle.math_lists.specs.Scan.{Along, along_start, along_next, along_end}
+use Rattle.math_lists.specs.Scan.{along_start, along_next, along_end}
 use Rattle.standard.specs.Tables.{◌at◌}
 use Rattle.standard.specs.Preprocessing.{emphasis}
 use Rattle.pre_processing.proofs.emphasis.Goals as goal

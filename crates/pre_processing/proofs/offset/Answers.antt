@@ -1,16 +1,15 @@
 -- Iteration k makes one step of the filter. The state stays sound, and this keeps each sum within 32 bits.
-use Prim.Native.Nat.{◌-◌, ◌≤◌}
 use mathlib.Core.Path.{◌≡◌, sym, ap, ◌∙◌}
 use mathlib.Core.Bool.{true}
 use native.Mathlib.Omega.{arith}
 use borrow.Author.Rules.{rules, sfits_of}
 use lib.IntN.{ℤ, pos, ◌+ℤ◌, ◌-ℤ◌, ◌*ℤ◌}
-use lib.ListN.{length, length-set}
+use lib.ListN.{length-set}
 use mir.Syntax.{w16, w32}
 use mir.Val.{SFits, to_z}
 use Rattle.math_integers.specs.Halves.{mem, zar}
 use Rattle.math_integers.specs.Ranges.{zfits, back, res, wide, difference_fits}
-use Rattle.math_lists.specs.Scan.{Along, along_start, along_next, along_end}
+use Rattle.math_lists.specs.Scan.{along_start, along_next, along_end}
 use Rattle.standard.specs.Preprocessing as standard
 use Rattle.standard.specs.Preprocessing.{downscaled, offset}
 use Rattle.standard.specs.Arithmetic.{◌>>◌, ◌<<◌}

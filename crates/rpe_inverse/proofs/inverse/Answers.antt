@@ -1,18 +1,17 @@
 -- The mantissa, the shift and the rounding term are the standard's, because the exponent is from −4 to 6. Iteration i stores pulse i.
-use Prim.Native.Nat.{ℕ, ◌-◌, ◌≤◌}
+use Prim.Native.Nat.{ℕ, ◌≤◌}
 use mathlib.Core.Path.{◌≡◌, refl, sym, ap, ◌∙◌}
-use mathlib.Core.List.{map}
 use native.Mathlib.Omega.{arith}
 use lib.Dec.{T, leb, leb→le}
 use lib.IntN.{ℤ, pos, ◌-ℤ◌, nat_abs}
 use lib.ListN.{length, get_or, length-map}
 use mir.Syntax.{w16}
-use mir.Val.{SFits, to_z}
+use mir.Val.{SFits}
 use borrow.Author.Rules.{rules}
 use Rattle.math_integers.specs.Halves.{P, N, zar, know, mem}
 use Rattle.math_integers.specs.Sums.{minus_is}
 use Rattle.math_integers.specs.Ranges.{back, res}
-use Rattle.math_lists.specs.Fill.{filled, fill_next, fill_end}
+use Rattle.math_lists.specs.Fill.{fill_next, fill_end}
 use Rattle.math_lists.specs.Tab.{map_at}
 use Rattle.standard.specs.Arithmetic.{shl, sub}
 use Rattle.standard.specs.Tables.{◌at◌, FAC}
@@ -20,7 +19,7 @@ use Rattle.standard.specs.Rpe.{amplitude, xMp}
 use Rattle.law_arithmetic.specs.Clip.{minus_plain}
 use Rattle.op_tables.specs.Facts.{FAC_above}
 use Rattle.rpe_quantise.specs.Doubling.{gap_fits, gap_is, gap_in, gap_count}
-use Rattle.rpe_inverse.specs.Inverse.{pulse, half_in}
+use Rattle.rpe_inverse.specs.Inverse.{half_in}
 use Rattle.rpe_inverse.proofs.inverse.Goals as goal
 use Rattle.rpe_inverse.proofs.inverse.Goals.{After-exp_and_mant-a, After-mantissa_fac-temp1, After-shl-temp3}
 
@@ -52,8 +51,8 @@ module _ (c : After-exp_and_mant-a) where
 abbrev call : After-mantissa_fac-temp1 → After-exp_and_mant-a
 call c = c.before.before.before.before
 
-abbrev fac : After-shl-temp3 → After-mantissa_fac-temp1
-fac c = c.before.before.before
+abbrev made : After-shl-temp3 → After-exp_and_mant-a
+made c = c.before.before.before.before.before.before
 
 pub overflow_cast-mant : goal.overflow_cast-mant
 overflow_cast-mant c =
@@ -62,17 +61,16 @@ overflow_cast-mant c =
     (rw (mant_is k) tt, record { fits = omega (arith, know f) })
 
 -- the mantissa in the table
-temp1-is : (c : After-mantissa_fac-temp1)
-    → mem w16 c.mantissa_fac-temp1.result ≡ FAC at (amplitude (call c).args.xmaxc).mant
-temp1-is c = res c.mantissa_fac-temp1 ∙ (c.mantissa_fac-temp1.ensures ∙ ap (λ (z : ℤ). FAC at nat_abs z) (mant_is (call c)))
+temp1-is : (c : After-shl-temp3) → mem w16 c.mantissa_fac-temp1.result ≡ FAC at (amplitude c.args.xmaxc).mant
+temp1-is c = res c.mantissa_fac-temp1 ∙ (c.mantissa_fac-temp1.ensures ∙ ap (λ (z : ℤ). FAC at nat_abs z) (mant_is (made c)))
 
 pub overflow_sub-temp2-2 : goal.overflow_sub-temp2-2
 overflow_sub-temp2-2 c = search (rules, less_fits (call (goal.at.overflow_sub-temp2-2 c).After-mantissa_fac-temp1))
 
 -- the rounding term
-temp3-is : (c : After-shl-temp3) → mem w16 c.shl-temp3.result ≡ shl w16 (pos 1) (sub (temp2 (call (fac c))) (pos 1))
+temp3-is : (c : After-shl-temp3) → mem w16 c.shl-temp3.result ≡ shl w16 (pos 1) (sub (temp2 (made c)) (pos 1))
 temp3-is c =
-    let k = call (fac c) in
+    let k = made c in
     let f = overflow_sub-temp2-2 c.before in
     res c.shl-temp3
     ∙ (c.shl-temp3.ensures ∙ ap (shl w16 (pos 1)) (back f ∙ rw (temp2-is k) (sym (minus_plain (temp2 k) (pos 1) (rw (temp2-is k) at f)))))
@@ -80,15 +78,15 @@ temp3-is c =
 pub pulse-requires : goal.pulse-requires
 pulse-requires c =
     let b = c.before.before.before in
-    let k = call (fac b) in
+    let k = made b in
     let (n, p) = temp2_in k in
-    let count = gap_count k.before.args.xmaxc _ k.before.requires (exp-is k) 6 tt tt in
-    (rw (temp1-is (fac b)) (FAC_above _), (count, rw (temp3-is b) (half_in (temp2 k) n p)))
+    let count = gap_count k.args.xmaxc _ k.requires (exp-is k) 6 tt tt in
+    (rw (temp1-is b) (FAC_above _), (count, rw (temp3-is b) (half_in (temp2 k) n p)))
 
 pub loop-i-preserved : goal.loop-i-preserved
 loop-i-preserved c =
     let b = c.before.before.before in
-    let s = (call (fac b.before)).before in
+    let s = b in
     let i = b.loop-i.i in
     let f : SFits w16 (get_or s.args.xmc i (pos 0)) = search rules in
     let n : length s.args.xmc ≡ 13 = search rules in
@@ -103,10 +101,10 @@ unfolding xMp
 returns c =
     let b = c.before in
     let m = b.before in
-    let k = call (fac m) in
-    let n : length k.before.args.xmc ≡ 13 = search rules in
+    let k = made m in
+    let n : length c.args.xmc ≡ 13 = search rules in
     fill_end _ _ b.loop-i.i b.loop-i.invariant.1 (rw (length-map, n) (omega arith)) (omega arith)
-    ∙ rw (temp1-is (fac m), temp2-is k, temp3-is m) refl
+    ∙ rw (temp1-is m, temp2-is k, temp3-is m) refl
 
 pub exp_and_mant-a-requires : goal.exp_and_mant-a-requires
 exp_and_mant-a-requires c = rw (back c.ranges.xmaxc) c.requires

@@ -1,14 +1,8 @@
 -- The array of zeros is what the first loop of 4.2.17 leaves. Iteration i is iteration i of the second loop, so the result is ep.
 use Prim.Native.Nat.{◌-◌, ◌≤◌}
-use mathlib.Core.Path.{◌≡◌, refl, sym, ap, ◌∙◌}
-use native.Mathlib.Omega.{arith}
-use borrow.Author.Rules.{rules, sfits_of}
-use lib.IntN.{pos}
-use lib.ListN.{replicate}
-use Rattle.math_integers.specs.Ranges.{back}
-use Rattle.math_integers.specs.Needs.{by_8}
-use Rattle.math_lists.specs.Steps.{steps, steps_next, steps_end}
-use Rattle.law_loops.specs.Positions.{ep_zero, ep_turn, ep_loops}
+use mathlib.Core.Path.{◌≡◌}
+use Rattle.math_lists.specs.Steps.{steps}
+use Rattle.law_loops.specs.Positions.{ep_turn}
 use Rattle.rpe_inverse.proofs.positioned.Given as goal
 
 abbrev pub invariant-loop-i : goal.invariant-loop-i

@@ -1,12 +1,11 @@
 -- The mantissa is not negative and the pulse is at most 28672, so neither the product nor the sum saturates. The plain operations give
 -- what mult_r and add give.
-use Prim.Native.Nat.{◌*◌, ◌%◌, ◌^◌, ◌≤◌}
+use Prim.Native.Nat.{◌*◌, ◌%◌, ◌≤◌}
 use mathlib.Core.Path.{◌≡◌, sym, ap, ◌∙◌}
 use native.Mathlib.Omega.{arith}
 use lib.IntN.{ℤ, pos, ◌+ℤ◌, ◌*ℤ◌}
 use mir.Syntax.{w16, w32}
 use mir.Val.{SFits, of_z, to_z}
-use borrow.Author.Rules.{rules}
 use Rattle.math_integers.specs.Halves.{P, mem}
 use Rattle.math_integers.specs.Ranges.{zfits, wide, back}
 use Rattle.standard.specs.Arithmetic.{◌<<◌, ◌>>◌, shr, add, sub, mult_r}
@@ -24,7 +23,7 @@ x c = to_z w16 ((of_z w16 c.sub-x.result * 4096) % 65536)
 x-is : (c : After-sub-x) → x c ≡ sub (c.args.xmc << 1) (pos 7) << 12
 x-is c =
     let s = c in
-    up_bits w16 c.sub-x.result 12 (record { sfits = c.sub-x.type-inv })
+    up_bits w16 c.sub-x.result 12 (record { sfits = c.sub-x.type_inv })
     ∙ ap (λ (z : ℤ). z << 12) (c.sub-x.ensures ∙ ap (λ (z : ℤ). sub z (pos 7)) (up_bits w16 s.args.xmc 1 s.ranges.xmc))
 
 x_fits : (c : After-sub-x) → SFits w16 (x c)

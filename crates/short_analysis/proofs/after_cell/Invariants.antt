@@ -1,15 +1,9 @@
 -- Index 0 is for a cell. Iteration k stores sample k at index 1 + k.
 use Prim.Native.Nat.{◌-◌, ◌≤◌}
-use mathlib.Core.Path.{◌≡◌, refl}
-use mathlib.Core.List.{append-nil}
-use native.Mathlib.Numerals.{add-one}
-use native.Mathlib.Omega.{arith}
-use borrow.Author.Rules.{rules, sfits_of}
+use mathlib.Core.Path.{◌≡◌}
 use lib.IntN.{pos}
-use lib.ListN.{length, replicate, length-set}
-use lib.Seq.{paste, paste-suc, take_all}
-use Rattle.math_integers.specs.Ranges.{back}
-use Rattle.math_integers.specs.Needs.{by_4}
+use lib.ListN.{length, replicate}
+use lib.Seq.{paste}
 use Rattle.short_analysis.proofs.after_cell.Given as goal
 
 abbrev pub invariant-loop-k : goal.invariant-loop-k

@@ -11,7 +11,7 @@ use lib.ListN.{length, drop, set}
 use mir.Syntax.{w16, w64}
 use mir.Val.{Fits, SFits}
 use Rattle.math_integers.specs.Halves.{mem}
-use Rattle.math_integers.specs.Ranges.{back, res}
+use Rattle.math_integers.specs.Ranges.{back}
 use Rattle.math_lists.specs.Scan.{run, along_start, along_end}
 use Rattle.math_lists.specs.Every.{every, every_at}
 use Rattle.standard.specs.Tables.{◌at◌}
@@ -89,7 +89,7 @@ loop-j-init c =
         p_length = search rules;
         q_length = refl;
         kept_length = refl;
-        along = rw e (along_start (stage 159) (s, s) (zip (columns (first r) (second r) (third r) (fourth r)) (cells r)) _);
+        Along = rw e (along_start (stage 159) (s, s) (zip (columns (first r) (second r) (third r) (fourth r)) (cells r)) _);
       },
     )
 
@@ -125,7 +125,7 @@ module _ (c : After-stage) where
       let t = turn_one in
       let u : SFits w16 (cells (known t) at i_of t) = sfits_of c.stage-arg-1.given in
       done_next _ _ _ _ _ _ t.loop-j.invariant.2 (eight (known t)).0 (i_below t) c.own.ensures (back u)
-      c.stage.ensures.p c.stage.ensures.di.0 c.stage.ensures.di.1.0 c.stage.ensures.di.1.1 (res c.stage)
+      c.stage.ensures.p c.stage.ensures.di c.stage.ensures.q c.stage.ensures.u (back {w = w16} (record { sfits = c.stage.type_inv }))
 
 pub stage-requires : goal.stage-requires
 stage-requires c =
@@ -149,7 +149,7 @@ module _ (c : After-stage-in-loop-j) where
       let t = turn_two in
       let u : SFits w16 (cells (known t) at k_of t) = sfits_of c.stage-arg-in-loop-j-2-1.given in
       done_next _ _ _ _ _ _ (done_one one_of) (eight (known t)).0 (k_below t) c.own-in-loop-j.ensures (back u)
-      c.stage-in-loop-j.ensures.p c.stage-in-loop-j.ensures.di.0 c.stage-in-loop-j.ensures.di.1.0 c.stage-in-loop-j.ensures.di.1.1 (res c.stage-in-loop-j)
+      c.stage-in-loop-j.ensures.p c.stage-in-loop-j.ensures.di c.stage-in-loop-j.ensures.q c.stage-in-loop-j.ensures.u (back {w = w16} (record { sfits = c.stage-in-loop-j.type_inv }))
 
 pub stage-requires-in-loop-j : goal.stage-requires-in-loop-j
 stage-requires-in-loop-j c =
@@ -194,7 +194,7 @@ returns c =
     r.coefficients-first.ensures r.coefficients-second.ensures r.coefficients-third.ensures
     r.coefficients-fourth.ensures in
     let m = pairs_eight (first r) (second r) (third r) (fourth r) (cells r) (eight r).0 in
-    let (f, g) = along_end (stage 159) _ _ d.along (omega (arith, m)) (omega (arith, d.kept_length)) in
+    let (f, g) = along_end (stage 159) _ _ d.Along (omega (arith, m)) (omega (arith, d.kept_length)) in
     record { u = rw w g; d = rw w (ap (λ (t : List ℤ × List ℤ). t.0) f) }
 
 -- the address of a word among eight does not wrap

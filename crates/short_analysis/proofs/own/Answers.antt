@@ -1,11 +1,10 @@
 -- The four words read at index i are section i's coefficients of the four stretches.
 use mathlib.Core.Path.{◌≡◌}
 use mathlib.Core.List.{List}
-use borrow.Author.Rules.{rules, sfits_of}
+use borrow.Author.Rules.{sfits_of}
 use lib.IntN.{ℤ}
 use mir.Syntax.{w16}
 use Rattle.math_integers.specs.Ranges.{back}
-use Rattle.math_integers.specs.Needs.{by_8}
 use Rattle.short_analysis.specs.Sections.{spread}
 use Rattle.short_analysis.proofs.own.Goals as goal
 

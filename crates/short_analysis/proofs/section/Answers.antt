@@ -1,5 +1,4 @@
 -- Iteration k stores one di and one sav: the elements at k of what the definition gives over all samples.
-use Prim.Native.Nat.{◌-◌, ◌≤◌}
 use mathlib.Core.Bool.{true}
 use mathlib.Core.Path.{◌≡◌, refl, sym, ap₂, ◌∙◌}
 use native.Mathlib.Omega.{arith}
@@ -11,7 +10,7 @@ use mir.Val.{SFits}
 use Rattle.math_integers.specs.Halves.{mem}
 use Rattle.math_integers.specs.Ranges.{back, res}
 use Rattle.math_lists.specs.Every.{every_at}
-use Rattle.math_lists.specs.Fill.{filled, fill_next, fill_read, fill_end}
+use Rattle.math_lists.specs.Fill.{fill_next, fill_read, fill_end}
 use Rattle.standard.specs.Arithmetic.{add, mult_r}
 use Rattle.standard.specs.Tables.{◌at◌}
 use Rattle.short_ratios.specs.Bounds.{factor}
@@ -63,7 +62,7 @@ loop-k-preserved c =
     let lr : length rp ≡ 160 = c.requires.0.0 in
     let lp : length prev ≡ 160 = c.requires.0.1 in
     let ld : length di ≡ 160 = c.requires.1.0 in
-    let ls : length c.argc.sav.now ≡ 160 = c.requires.1.1.0 in
+    let ls : length c.args.sav.now ≡ 160 = c.requires.1.1.0 in
     let r = r-is at-c.After-r-1 in
     let p = p-is at-c.After-p-1 in
     let out = c.add-out.ensures ∙ ap₂ add (d-is d) (res c.product ∙ (c.product.ensures ∙ ap₂ mult_r r p)) in

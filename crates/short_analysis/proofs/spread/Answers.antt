@@ -6,7 +6,6 @@ use borrow.Author.Rules.{rules}
 use lib.IntN.{ℤ}
 use lib.ListN.{length, take, drop, replicate}
 use Rattle.math_integers.specs.Ranges.{back}
-use Rattle.math_integers.specs.Needs.{by_4, by_12}
 use Rattle.math_lists.specs.Parts.{put}
 use Rattle.short_analysis.specs.Sections.{spread_parts}
 use Rattle.short_analysis.proofs.spread.Goals as goal

@@ -4,7 +4,6 @@ use lib.IntN.{ℤ, pos, ◌-ℤ◌, ◌*ℤ◌}
 use lib.Signed.{shr_z}
 use mir.Syntax.{w16, w32}
 use mir.Val.{SFits}
-use borrow.Author.Rules.{rules}
 use Rattle.math_integers.specs.Halves.{mem}
 use Rattle.math_integers.specs.Ranges.{back, res, shr_fits, sum_fits}
 use Rattle.standard.specs.Arithmetic.{clip, plus, ◌>>◌}

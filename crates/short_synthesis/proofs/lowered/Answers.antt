@@ -1,7 +1,6 @@
 -- sri less a term fits 32 bits, so the difference on 32 bits is the plain difference.
 use mir.Syntax.{w16}
 use mir.Val.{SFits}
-use borrow.Author.Rules.{rules}
 use Rattle.math_integers.specs.Ranges.{zfits, back, res}
 use Rattle.law_arithmetic.specs.Product.{mult_r_fits}
 use Rattle.law_arithmetic.specs.Within.{word_is}

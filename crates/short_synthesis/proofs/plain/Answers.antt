@@ -1,7 +1,7 @@
 -- One sample by plain sums: each section goes on from the one before. If the last fits, all did, and these are 4.3.4's eight.
 use Rattle.math_integers.specs.Ranges.{back}
 use Rattle.short_synthesis.specs.Lattice.{all_from, factor_back, local_factor, sections_are}
-use Rattle.short_synthesis.specs.Biased.{base, local_offset, local_lifted, lifted_back, lifted_held, low_passed}
+use Rattle.short_synthesis.specs.Biased.{base, low, local_offset, local_lifted, lifted_back, lifted_held, low_passed}
 use Rattle.short_synthesis.proofs.plain.Goals as goal
 
 -- ---- what each call asks: what a local gives back of a coefficient or a cell passes the same test, and the offset is
@@ -69,7 +69,7 @@ returns c h =
     let (f6, p5) = c.tried-s5.ensures.fits f5 in
     let (f7, p6) = c.tried-s6.ensures.fits f6 in
     rw (lifted_back c.tried-s0.result.out c.tried-s0.ensures.out)
-    (sections_are c.args.r (base c.args.v) c.args.wt
+    (sections_are c.args.r (base c.args.v) (low c.args.wt)
     (rw (r.v7, v.v7, back c.ranges.wt) at (c.entered-s7.ensures.fits f7))
     (low_passed c.tried-s6.result.above r.v6 v.v6 p6)
     (low_passed c.tried-s5.result.above r.v5 v.v5 p5)

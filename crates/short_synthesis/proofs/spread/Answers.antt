@@ -11,7 +11,6 @@ use Rattle.law_arithmetic.specs.Within.{word_yes}
 use Rattle.short_synthesis.specs.declared.Line.{Line}
 use Rattle.short_synthesis.specs.Lattice.{cells, All, all_from, lined_same, eight_is, widened, widened_fits}
 use Rattle.short_synthesis.proofs.spread.Goals as goal
-use Rattle.short_synthesis.proofs.spread.Goals.{After-result-4-1}
 
 abbrev line : List ℤ → Line
 line a =
@@ -19,8 +18,7 @@ line a =
 
 pub returns : goal.returns
 returns c =
-    let fourth : After-result-4-1 = c.before.before.before.before in
-    let a = fourth.args.a in
+    let a = c.args.a in
     let f : All (SFits w16) (line a) = search rules in
     let e = lined_same (λ z. mem w32 (mem w16 z)) (λ z. z) widened (line a) f in
     record {

@@ -1,19 +1,18 @@
 -- A stretch of samples: the first loop carries the cells and msr from sample to sample, the second doubles and truncates.
-use Prim.Native.Nat.{◌+◌, ◌-◌, ◌≤◌}
 use mathlib.Core.Path.{◌≡◌, refl, sym, ap, ◌∙◌}
 use mathlib.Core.Bool.{true}
-use mathlib.Core.List.{List, map, zip}
+use mathlib.Core.List.{List, map}
 use native.Mathlib.Omega.{arith}
 use lib.IntN.{ℤ, pos}
-use lib.ListN.{length, replicate, length-map, length-set}
-use mir.Syntax.{w16, w32, w64}
-use mir.Val.{Fits, SFits, to_z}
+use lib.ListN.{length-map, length-set}
+use mir.Syntax.{w16, w32}
+use mir.Val.{SFits, to_z}
 use borrow.Author.Rules.{rules, sfits_of}
 use Rattle.math_integers.specs.Halves.{mem}
 use Rattle.math_integers.specs.Ranges.{back, res}
-use Rattle.math_lists.specs.Fill.{filled, fill_next, fill_read, fill_end}
+use Rattle.math_lists.specs.Fill.{fill_next, fill_read, fill_end}
 use Rattle.math_lists.specs.Tab.{map_at}
-use Rattle.math_lists.specs.Scan.{Along, along_start, along_next, along_end}
+use Rattle.math_lists.specs.Scan.{along_start, along_next, along_end}
 use Rattle.standard.specs.Tables.{◌at◌}
 use Rattle.standard.specs.Decoder.{synthesised, de_emphasis, srop}
 use Rattle.law_arithmetic.specs.Within.{word, word_is, word_yes}
@@ -22,7 +21,7 @@ use Rattle.short_synthesis.specs.Speech.{sounded, voiced, voiced_is, paired_leng
 use Rattle.short_synthesis.specs.declared.Line.{Line}
 use Rattle.short_synthesis.specs.Lattice.{cells, Each, each_yes, widened, widened_fits, after_words}
 use Rattle.short_synthesis.specs.Lattice.{emphasised_word, turn_is}
-use Rattle.short_synthesis.specs.Biased.{base, low, lifted_back}
+use Rattle.short_synthesis.specs.Biased.{base, low, lifted_back, sample_fits, sample_is}
 use Rattle.short_synthesis.proofs.stretch.Goals as goal
 use Rattle.short_synthesis.proofs.stretch.Goals.{After-de_emphasis-msr, After-gathered, After-lattice-arg-1, After-lattice-v, After-loop-k-2, After-spread-rp, After-struct_told-1, After-with_bias-v, At-loop-k, In-loop-k, In-loop-k-2, Start}
 
@@ -65,13 +64,6 @@ loop-k-init c =
 
 -- ---- an iteration of the first loop
 
-pub offset_bounds-wt-k : goal.offset_bounds-wt-k
-offset_bounds-wt-k c = search rules
-
--- the next index still fits
-next : (c : In-loop-k) → Fits w64 (c.loop-k.k + 1)
-next c = search rules
-
 -- the sample that is read
 x_fits : (c : After-lattice-arg-1)
     → let t = c.before.before in SFits w16 ((start t.before).args.wt.now at t.loop-k.k)
@@ -80,12 +72,15 @@ x_fits c = sfits_of c.lattice-arg-1.given
 pub overflow_cast-wt : goal.overflow_cast-wt
 overflow_cast-wt c = widened_fits _ (x_fits c)
 
+pub overflow_add-wt : goal.overflow_add-wt
+overflow_add-wt c = sample_fits _ (x_fits c)
+
 pub lattice-v-requires : goal.lattice-v-requires
 lattice-v-requires c =
     let t = c.before.before in
     let b = t.before in
     let x = (start b).args.wt.now at t.loop-k.k in
-    (factors (spread_at b), (ready b).offsets-c.ensures, t.loop-k.invariant.1, rw (widened x (x_fits c)) (word_yes x (x_fits c)))
+    (factors (spread_at b), (ready b).offsets-c.ensures, t.loop-k.invariant.1, rw (sample_is x (x_fits c)) (word_yes x (x_fits c)))
 
 module _ (c : After-lattice-v) where
   abbrev t : At-loop-k
@@ -102,7 +97,7 @@ module _ (c : After-lattice-v) where
 
   -- the lattice, on the sample that was read
   sample : cells (base c.lattice-v.result) ≡ (synthesised (cells (base t.loop-k.v)) (cells rp, x)).0
-  sample = rw (widened x (x_fits c.before)) at c.lattice-v.ensures
+  sample = rw (sample_is x (x_fits c.before)) at c.lattice-v.ensures
 
   -- leaves words
   after : Each word (base c.lattice-v.result)
@@ -144,9 +139,6 @@ loop-k-preserved c =
     )
 
 -- ---- an iteration of the second loop
-
-pub offset_bounds-srop-k-in-loop-k-2 : goal.offset_bounds-srop-k-in-loop-k-2
-offset_bounds-srop-k-in-loop-k-2 c = search rules
 
 pub loop-k-2-preserved : goal.loop-k-2-preserved
 loop-k-2-preserved c =
@@ -217,14 +209,8 @@ bounds-wt-k c = omega arith
 pub overflow_cast-srop : goal.overflow_cast-srop
 overflow_cast-srop c = word_is (d c) (sro_word c)
 
-pub offset_bounds-srop-k : goal.offset_bounds-srop-k
-offset_bounds-srop-k c = offset_bounds-wt-k c.before.before.before.before.before
-
 pub bounds-srop-k : goal.bounds-srop-k
 bounds-srop-k c = omega arith
-
-pub overflow_step-k : goal.overflow_step-k
-overflow_step-k c = next c.before.before.before.before.before
 
 pub loop-k-smaller : goal.loop-k-smaller
 loop-k-smaller c = omega arith
@@ -235,14 +221,8 @@ loop-k-2-init c = (omega arith, refl, refl)
 pub slice_copy_out-upscaled : goal.slice_copy_out-upscaled
 slice_copy_out-upscaled c = omega arith
 
-pub offset_bounds-srop-k-in-loop-k-2-2 : goal.offset_bounds-srop-k-in-loop-k-2-2
-offset_bounds-srop-k-in-loop-k-2-2 c = offset_bounds-srop-k-in-loop-k-2 c.before.before
-
 pub bounds-srop-k-in-loop-k-2 : goal.bounds-srop-k-in-loop-k-2
 bounds-srop-k-in-loop-k-2 c = omega arith
-
-pub overflow_step-k-in-loop-k-2 : goal.overflow_step-k-in-loop-k-2
-overflow_step-k-in-loop-k-2 c = next2 c.before.before
 
 pub loop-k-2-smaller : goal.loop-k-2-smaller
 loop-k-2-smaller c = omega arith

@@ -2,7 +2,6 @@
 use mathlib.Core.Path.{ap, ◌∙◌}
 use mir.Syntax.{w16}
 use mir.Val.{SFits}
-use borrow.Author.Rules.{rules}
 use Rattle.math_integers.specs.Ranges.{back, res}
 use Rattle.standard.specs.Arithmetic.{clip, plus, minus}
 use Rattle.law_arithmetic.specs.Clip.{clip_fits}

@@ -1,6 +1,5 @@
 -- The doubling is `add`, which saturates; the two shifts clear the low 3 bits.
 use mir.Syntax.{w16}
-use borrow.Author.Rules.{rules}
 use Rattle.math_integers.specs.Ranges.{back, res, shr_fits}
 use Rattle.standard.specs.Arithmetic.{◌>>◌, add}
 use Rattle.standard.specs.Frame.{sample}

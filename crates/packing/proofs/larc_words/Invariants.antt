@@ -1,0 +1,15 @@
+-- Eight turns of `take`. With 36 bits given and fewer than eight waiting, five bytes are read and four bits wait.
+use Prim.Native.Nat.{◌-◌, ◌≤◌}
+use mathlib.Core.Path.{◌∙◌}
+use native.Mathlib.Omega.{arith}
+use borrow.Author.Rules.{rules}
+use Rattle.frame_codewords.specs.Widths.{width_first}
+use Rattle.packing.specs.Waiting.{moving_start}
+use Rattle.packing.specs.Turns.{Reading, reading_at}
+use Rattle.packing.proofs.larc_words.Given as goal
+
+abbrev pub invariant-loop-i : goal.invariant-loop-i
+invariant-loop-i l = (l.i ≤ 8) × Reading l.bytes l.q.at l.i l.q.have l.q.waiting l.codewords
+
+abbrev pub decreases-loop-i : goal.decreases-loop-i
+decreases-loop-i l = 8 - l.i
