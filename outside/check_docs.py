@@ -40,7 +40,7 @@ DATA = ('outside/vectors/*', 'recordings/*.raw', 'recordings/*.al', '*.svg', '*.
         'crates/*/stdout', 'crates/*/args', 'crates/*/data/*')
 
 # what commands make, and what is in no checkout: paths below these folders, and what make dist puts into the archive
-MADE = ('target', 'build')
+MADE = ('target', 'out', 'build')
 ARCHIVED = ('include/rpeltp.h', 'lib/librpeltp.a', 'lib/pkgconfig/rpeltp.pc', 'examples', 'bin', 'librpeltp.a',
             'rpeltp.pc', 'example', 'rpeltp-')
 # what the lister writes where the recursion stopped
@@ -60,17 +60,17 @@ OTHERS = {
         result now old new tactic auto i8 i16 i32 i64 u8 u16 u32 u64 usize bool
         '''.split(),
     # words of its specs and proofs, its tactics
-    'Rattle, proofs': 'unfoldable unfolding abbrev record where refl omega search grind rw cc simp elim'.split(),
+    'Rattle, proofs': 'unfoldable unfolding abbrev record where refl omega search grind rw cc simp'.split(),
     # parts of the names that it gives to goals, places and what is known there, as in c.loop-k.invariant; the keys of
     # an .edit file
     'Rattle, goals': '''
-        goal goal. at args ranges fn initial before branch type_inv invariant overflow_add-x f-requires
-        if-n-lt15 Else-n-lt15 if-x-b then-x-b else-x-b loop-k m-bits m-is After-f now-1 x-1 file: old: new:
+        goal. args ranges fn initial branch type_inv invariant overflow_add-x f-requires if-n-lt15 Else-n-lt15 if-x-b
+        then-x-b else-x-b loop-k m-bits m-is After-f now-1 x-1 file: old: new:
         '''.split(),
     # the toolchain: its programs, options and variables, what they print, its library and its guides
     'Rattle, kit': '''
-        Rattle rattle rt --allow-holes --generated --start --only --anew RATTLE_HOME KIT-ID logic= axioms not-proved
-        FitsSigned libc write_all rattle_errno rattle/FIRST_PROOFS.md rattle/SHORTER_PROOFS.md
+        Rattle rattle rt --allow-holes --generated --start --only --anew logic= axioms FitsSigned libc write_all
+        rattle_errno rattle/FIRST_PROOFS.md rattle/SHORTER_PROOFS.md
         '''.split(),
     # names in the standard's clause 4 that nothing here is called after
     'the standard': 'L_add L_temp L_result'.split(),

@@ -293,7 +293,8 @@ class Function:
                     parts.insert(2, f[0])
                 elif len(parts) > 2 and parts[2].isdigit() and int(parts[2]) < len(f):
                     parts[2] = f[int(parts[2])]
-            if len(parts) > 2 and parts[1] == "new" and self.called.get(place):
+            if len(parts) > 2 and parts[1] in ("new", "last") and self.called.get(place):
+                parts[1] = "new"
                 k, n = 2, 0
                 while k < len(parts) and parts[k] == "1":
                     k, n = k + 1, n + 1
@@ -436,7 +437,7 @@ class Function:
                 (new, place) = next(iter(news[key]))
                 plain = part in SOURCE_WORDS and part not in ("loop",) and not part.startswith("if")
                 behind = parts[i + 2] if i + 2 < len(parts) else ""
-                if not plain or parts[i] == "before" or behind in ("result", "ensures", "new", "given", "taken", "true", "false", "lifetimes") or new == part.replace("-", "_"):
+                if not plain or parts[i] == "before" or behind in ("result", "ensures", "new", "last", "given", "taken", "true", "false", "lifetimes") or new == part.replace("-", "_"):
                     out.append(new)
                     continue
             out.append(part)

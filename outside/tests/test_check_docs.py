@@ -10,7 +10,7 @@ import check_docs as docs
 OLD = [f'0{n}' for n in ('1', '2')] + [f'00{1}']
 RT = '''// A stage.
 use other::thing;
-ghost use lib.IntN.{pos, toZ};
+ghost use Rattle.std.specs.Prelude.{pos, to_z};
 pub struct Encoder {
     pub l_z2: i32,
 }
@@ -29,20 +29,20 @@ pub fn weighted(out: &mut [i16], place: usize) -> i16 {
 fn inner(out: &mut [i16]) -> i16 {
     0
 }
-#[no_mangle]
+#[unsafe(no_mangle)]
 pub extern "C" fn rpeltp_encode(state: Encoder) -> Encoder {
     state
 }
 '''
 ANTT = '''-- 4.2.13: a stage, with `nothing : here`
 use lib.ListN.{take, drop}
-use Rattle·standard.specs.Lpc as lpc
+use Rattle.standard.specs.Lpc as lpc
 
 pub weighted : List ℤ → List ℤ
 weighted e = local e
 
-unfoldable pub _at_ : ℕ
-abbrev L-sum :
+unfoldable pub ◌at◌ : ℕ
+abbrev pub L_sum :
   ℤ
 
 -- ---- 4.2.14 RPE grid selection
@@ -65,7 +65,7 @@ FILES = {
     'crates/rpe_weighting/src/lib.rt': RT,
     'crates/standard/specs/Rpe.antt': ANTT,
     'crates/rpe_weighting/must-fail/tap_off.edit': 'file: src/lib.rt\n',
-    'crates/rpe_weighting/proofs/weighted/Proof.antt': 'abbrev Inv-loop : x\n\n  hidden-one : y\n',
+    'crates/rpe_weighting/proofs/weighted/Invariants.antt': 'abbrev pub invariant-loop : x\n\n  hidden-one : y\n',
     'docs/ROOMS.md': '# Rooms\n\n## The crates\n\n| `rpe_weighting` | 4.2.13 |\n',
     'docs/PROMISES.md': '| `rpe_weighting::weighted(out, place)` | `Encoder::home()` | `rpeltp_encode(state)` |\n',
     'docs/CLAUSES.md': '| 4.2.13 filter | x |\n| 4.2.14 grid | x |\n',
@@ -119,6 +119,7 @@ class Whole(Checkout):
 
     def test_files_without_git(self) -> None:
         self.write('build/made.py', 'x = 1\n')
+        self.write('crates/rpe_weighting/out/made.antt', 'x : 1\n')
         self.write('rust/target/made.rs', 'x\n')
         with mock.patch('subprocess.run', side_effect=FileNotFoundError):
             self.assertEqual(docs.tracked(self.root), sorted(FILES))
@@ -161,27 +162,27 @@ class Names(Checkout):
     def test_names_that_exist(self) -> None:
         self.assertEqual(self.spans(
             'rpe_weighting', 'weighted', 'rpe_weighting::weighted', 'Encoder::home()', 'rpe_weighting::Encoder::home',
-            'l_z2', '«l_z2»', 'Found', 'Mark::Found', 'libc::read', 'place', '_at_', 'L-sum', 'Answer', 'number',
-            'silent', 'stopped', 'inside', 'results', 'take', 'lpc', 'toZ', 'Inv-loop', 'tap_off', 'tap_off.edit',
-            'e15_impulse', 'Rpe', 'Rpe.antt', 'run', 'SEED', 'rpeltp_home', 'RPELTP_SAMPLES', 'Signs', 'ending',
-            'Signs::all', 'rpeltp', 'counts', 'SAMPLES', 'stop3', 'RPELTP_SEQUENCES', 'specs', 'rpe_', 'rpe_..',
-            'target/bin', 'docs/ROOMS.md', 'ROOMS.md', 'specs/Rpe.antt',
+            'l_z2', '«l_z2»', 'Found', 'Mark::Found', 'libc::read', 'place', '◌at◌', 'L_sum', 'Answer', 'number',
+            'silent', 'stopped', 'inside', 'results', 'take', 'lpc', 'to_z', 'invariant-loop', 'tap_off',
+            'tap_off.edit', 'e15_impulse', 'Rpe', 'Rpe.antt', 'run', 'SEED', 'rpeltp_home', 'RPELTP_SAMPLES', 'Signs',
+            'ending', 'Signs::all', 'rpeltp', 'counts', 'SAMPLES', 'stop3', 'RPELTP_SEQUENCES', 'specs', 'rpe_',
+            'rpe_..', 'build/bin', 'docs/ROOMS.md', 'ROOMS.md', 'specs/Rpe.antt',
             'crates/NAME/src/lib.rt', '.antt', 'outside/vectors/enc/e15_impulse', 'Makefile', '--frames'), [])
 
     def test_names_that_do_not(self) -> None:
         for span in ('rpe_other', 'nothing', 'local', 'hidden-one', 'comment_word', 'rpe_weighting::inside',
-                     'rpe_weighting::toZ', 'rpe_weighting::place',
+                     'rpe_weighting::to_z', 'rpe_weighting::place',
                      'Encoder::away', 'rpe_no::weighted', 'rpe_weighting::Mark::home', 'Mark::Lost', 'tap_on',
                      'tap_on.edit', 'Lpc.antt', 'docs/NO.md', 'specs/No.antt', 'crates/NAME/no.rt', '.xyz', 'law_..',
                      'stop9', '--no', 'W-204', 'weighted(nowhere)'):
             self.assertEqual(len(self.spans(span)), 1, span)
 
     def test_several_words(self) -> None:
-        self.assertEqual(self.spans('make run SEED=7', 'rt check rpe_weighting', 'any plain words', 'L-sum a b ≡ x',
+        self.assertEqual(self.spans('make run SEED=7', 'rt must-fail rpe_weighting', 'any plain words', 'L_sum a b ≡ x',
                                     'F 1 complete 32', 'python3 outside/compare.py --frames 5', 'N passed, 0 failed',
-                                    'if x < 15 { y } else { z }', 'rt: ok, 5 crates proved'), [])
-        for span in ('make walk', 'rt chekc', 'L-some a b', 'x no_name y', 'camelCase x', 'python3 outside/no.py',
-                     'rt check rpe_other', 'a rpe_weighting::no'):
+                                    'if x < 15 { y } else { z }', 'rt: rpe_weighting proved'), [])
+        for span in ('make walk', 'rt dev', 'L_some a b', 'x no_name y', 'camelCase x', 'python3 outside/no.py',
+                     'rt ci rpe_other', 'a rpe_weighting::no'):
             self.assertEqual(len(self.spans(span)), 1, span)
 
     def test_what_is_no_name(self) -> None:

@@ -7,6 +7,7 @@ ghost use Rattle.io_streams.specs.Frames.{Through};
 ghost use Rattle.decode_alaw.specs.Frame.{decoded};
 
 use decoder::Decoder;
+use std::io::Read;
 
 // The decoder after a turn, how many bytes of a frame that is not whole yet are kept, and whether there may be more.
 #[derive(Clone, Copy)]
@@ -47,11 +48,18 @@ fn code(m: Decoder, frames: usize, bytes: &[u8], out: &mut [u8]) -> Decoder
 
 // Codes and writes the frames that have come. Bytes that make no frame yet are kept for the next turn. There may be
 // more where a whole frame came and was written.
-fn turn(m: Decoder, there: usize, room: &mut [u8], out: &mut [u8]) -> After
+fn turn(
+    input: &mut impl Read,
+    rt: &(impl Print + Eprint),
+    m: Decoder,
+    there: usize,
+    room: &mut [u8],
+    out: &mut [u8],
+) -> After
     requires { (there < 152) × (length room.old ≡ 9728) × (length out.old ≡ 10240) }
     ensures { result.there < 152 }
 {
-    let got = io_streams::gather(there, 152, room);
+    let got = io_streams::gather(input, there, 152, room);
     let frames = got.count / 152;
     let next = code(m, frames, room, out);
     let rest = io_streams::keep(152 * frames, got.count, room);
@@ -59,20 +67,22 @@ fn turn(m: Decoder, there: usize, room: &mut [u8], out: &mut [u8]) -> After
     After {
         state: next,
         there: rest,
-        more: io_streams::written(io::write_all(1, &out[0..end])) && io_streams::whole(got, 152),
+        more: io_streams::written(rt, rt.write_all(&out[0..end]).is_ok())
+            && io_streams::whole(rt, got, 152),
     }
 }
 
 // The program must be shown to end, and nothing says that an input ends. So the turns are counted down. Each codes at
 // least one frame: together that is at least 2.7 years of speech.
-fn main() {
+fn main(rt: HostRuntime) {
+    let mut input = rt.stdin();
     let mut room = [0; 9728];
     let mut out = [0; 10240];
     let mut state = Decoder::home();
     let mut there: usize = 0;
     let mut turns = 4294967295u32;
     while 0 < turns {
-        let t = turn(state, there, &mut room, &mut out);
+        let t = turn(&mut input, &rt, state, there, &mut room, &mut out);
         if !t.more {
             return;
         }

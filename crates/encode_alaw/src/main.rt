@@ -7,6 +7,7 @@ ghost use Rattle.io_streams.specs.Frames.{Through};
 ghost use Rattle.encode_alaw.specs.Frame.{encoded};
 
 use encoder::Encoder;
+use std::io::Read;
 
 // The encoder after a turn, how many octets of a frame that is not whole yet are kept, and whether there may be more.
 #[derive(Clone, Copy)]
@@ -45,11 +46,18 @@ fn code(e: Encoder, frames: usize, octets: &[u8], out: &mut [u8]) -> Encoder
 
 // Codes and writes the frames that have come. Bytes that make no frame yet are kept for the next turn. There may be
 // more where a whole frame came and was written.
-fn turn(e: Encoder, there: usize, room: &mut [u8], out: &mut [u8]) -> After
+fn turn(
+    input: &mut impl Read,
+    rt: &(impl Print + Eprint),
+    e: Encoder,
+    there: usize,
+    room: &mut [u8],
+    out: &mut [u8],
+) -> After
     requires { (there < 160) × (length room.old ≡ 10240) × (length out.old ≡ 9728) }
     ensures { result.there < 160 }
 {
-    let got = io_streams::gather(there, 160, room);
+    let got = io_streams::gather(input, there, 160, room);
     let frames = got.count / 160;
     let next = code(e, frames, room, out);
     let rest = io_streams::keep(160 * frames, got.count, room);
@@ -57,20 +65,22 @@ fn turn(e: Encoder, there: usize, room: &mut [u8], out: &mut [u8]) -> After
     After {
         state: next,
         there: rest,
-        more: io_streams::written(io::write_all(1, &out[0..end])) && io_streams::whole(got, 160),
+        more: io_streams::written(rt, rt.write_all(&out[0..end]).is_ok())
+            && io_streams::whole(rt, got, 160),
     }
 }
 
 // The program must be shown to end, and nothing says that an input ends. So the turns are counted down. Each codes at
 // least one frame: together that is at least 2.7 years of speech.
-fn main() {
+fn main(rt: HostRuntime) {
+    let mut input = rt.stdin();
     let mut room = [0; 10240];
     let mut out = [0; 9728];
     let mut state = Encoder::home();
     let mut there: usize = 0;
     let mut turns = 4294967295u32;
     while 0 < turns {
-        let t = turn(state, there, &mut room, &mut out);
+        let t = turn(&mut input, &rt, state, there, &mut room, &mut out);
         if !t.more {
             return;
         }

@@ -8,6 +8,7 @@ ghost use Rattle.io_streams.specs.Frames.{Through};
 ghost use Rattle.lister.specs.Turn.{Turned};
 
 use list_frames::Lister;
+use std::io::Read;
 
 // The lister after some frames, and the index where their text ends.
 #[derive(Clone, Copy)]
@@ -25,19 +26,19 @@ struct After {
 }
 
 // Writes the first `length` bytes of a text, and says whether it could.
-fn print(text: [u8; 1024], length: usize) -> bool
+fn print(rt: &(impl Print + Eprint), text: [u8; 1024], length: usize) -> bool
     requires { length ≤ 1024 }
 {
-    io_streams::written(io::write_all(1, &text[..length]))
+    io_streams::written(rt, rt.write_all(&text[..length]).is_ok())
 }
 
 // Writes the E line, where `rest` bytes are not listed.
-fn end(l: Lister, rest: usize)
+fn end(rt: &(impl Print + Eprint), l: Lister, rest: usize)
     requires { rest ≤ 20480 }
 {
     let mut text = [0; 1024];
     let length = l.ended(rest as u32, &mut text);
-    print(text, length);
+    print(rt, text, length);
 }
 
 // A frame's lines, from index `at` on.
@@ -93,24 +94,31 @@ fn left(frames: u32) -> usize
 
 // Lists the frames that have come and writes their lines. Bytes that make no frame yet are kept for the next turn.
 // Where no whole frame is left, or the limit is reached, writes the last line.
-fn turn(l: Lister, there: usize, room: &mut [u8], out: &mut [u8]) -> After
+fn turn(
+    input: &mut impl Read,
+    rt: &(impl Print + Eprint),
+    l: Lister,
+    there: usize,
+    room: &mut [u8],
+    out: &mut [u8],
+) -> After
     requires { (there ≤ 20480) × (length room.old ≡ 20480) × (length out.old ≡ 65536) }
     ensures room { result.there ≤ 20480 }
     ensures turned { result.more ≡ true → Turned l there room.old out.old result
         room.new out.new }
 {
-    let got = io_streams::gather(there, 320, room);
+    let got = io_streams::gather(input, there, 320, room);
     let stopped = After {
         state: l,
         there: 0,
         more: false,
     };
-    if !io_streams::readable(got) {
+    if !io_streams::readable(rt, got) {
         return stopped;
     }
     let frames = io_streams::frames(got.count, 320, left(l.frames));
     if frames == 0 {
-        end(l, got.count);
+        end(rt, l, got.count);
         return stopped;
     }
     let t = list(l, frames, room, out);
@@ -120,25 +128,26 @@ fn turn(l: Lister, there: usize, room: &mut [u8], out: &mut [u8]) -> After
     After {
         state: next,
         there: rest,
-        more: io_streams::written(io::write_all(1, &out[0..length])),
+        more: io_streams::written(rt, rt.write_all(&out[0..length]).is_ok()),
     }
 }
 
 // A turn that is not the last lists at least one frame, so 1000001 turns are enough for 1000000 frames and the last
 // line.
-fn main() {
+fn main(rt: HostRuntime) {
     let mut text = [0; 1024];
     let length = list_borders::header(&mut text);
-    if !print(text, length) {
+    if !print(&rt, text, length) {
         return;
     }
+    let mut input = rt.stdin();
     let mut room = [0; 20480];
     let mut out = [0; 65536];
     let mut state = Lister::start();
     let mut there: usize = 0;
     let mut turns = 1000001u32;
     while 0 < turns {
-        let t = turn(state, there, &mut room, &mut out);
+        let t = turn(&mut input, &rt, state, there, &mut room, &mut out);
         if !t.more {
             return;
         }

@@ -46,7 +46,7 @@ fn padded(s: &[i16]) -> [i16; 168]
 }
 
 // The sum of the products of each sample and the one k samples before it, in five blocks of 32, for which the compiler
-// makes vector code. A product with one of the zeros adds nothing: that this is L_ACF[k] is `Upto-all` (specs/Blocks).
+// makes vector code. A product with one of the zeros adds nothing: that this is L_ACF[k] is `upto_all` (specs/Blocks).
 fn at_distance(k: usize, z: &[i16]) -> i32
     requires { (length z.now ≡ 168) × ((every (at_most 2048) z.now ≡ true) × (k ≤ 8)) }
     ensures { result ≡ upto z.now k 160 }

@@ -42,7 +42,7 @@ module _ (first second third fourth u s : List ℤ) where
     pub p_length : length p ≡ 161
     pub q_length : length q ≡ 161
     pub kept_length : length kept ≡ 8
-    pub Along : Along (stage 159) (s, s) (zip (columns first second third fourth) u) (di, drop 1 p) i kept
+    pub along : Along (stage 159) (s, s) (zip (columns first second third fourth) u) (di, drop 1 p) i kept
 
   -- the next section takes sav from p to q, so the two lists are exchanged; its new cell r is kept as r'
   pub done_next : {i : ℕ} {di p q kept rp di' p' q' : List ℤ} {v r r' : ℤ} → Done i di p q kept → length u ≡ 8 → i < 8
@@ -59,8 +59,8 @@ module _ (first second third fourth u s : List ℤ) where
         p_length = ap length c' ∙ ap suc n₁;
         q_length = ap length a ∙ ap suc m;
         kept_length = simp length-set h.kept_length;
-        Along =
-            along_next (stage 159) (s, s) (zip (columns first second third fourth) u) ([], pos 0) {x = x} h.Along
+        along =
+            along_next (stage 159) (s, s) (zip (columns first second third fourth) u) ([], pos 0) {x = x} h.along
             (rw (pairs_eight first second third fourth u n) l) (rw h.kept_length l) (pairs_at first second third fourth u i n l)
             (rw (b', c') refl) (k ∙ rw (e, f) at d);
       }

@@ -9,6 +9,7 @@ ghost use Rattle.standard.specs.Tables.{neg};
 
 use decoder::{Decoded, Decoder};
 use encoder::Encoder;
+use std::io::Read;
 
 // Both ends.
 #[derive(Clone, Copy)]
@@ -230,19 +231,19 @@ fn last_line(frames: u32, apart: u32, out: &mut [u8; 64]) -> usize
 }
 
 // Writes the first `length` bytes of a text, and says whether it could.
-fn print(text: [u8; 64], length: usize) -> bool
+fn print(rt: &(impl Print + Eprint), text: [u8; 64], length: usize) -> bool
     requires { length ≤ 64 }
 {
-    io_streams::written(io::write_all(1, &text[..length]))
+    io_streams::written(rt, rt.write_all(&text[..length]).is_ok())
 }
 
 // Writes the last line.
-fn end(frames: u32, apart: u32)
+fn end(rt: &(impl Print + Eprint), frames: u32, apart: u32)
     requires { (frames ≤ 1000000) × (apart ≤ frames) }
 {
     let mut text = [0; 64];
     let length = last_line(frames, apart, &mut text);
-    print(text, length);
+    print(rt, text, length);
 }
 
 // The count of frames with a fault: one more, where this verdict is a fault.
@@ -304,17 +305,24 @@ fn list(t: Tally, frames: usize, bytes: &[u8], out: &mut [u8]) -> Lines
 
 // Takes the frames that have come from one end to the other and writes their lines. Bytes that make no frame yet are
 // kept for the next turn. Where no whole frame is left, writes the last line.
-fn turn(t: Tally, there: usize, room: &mut [u8], out: &mut [u8]) -> After
+fn turn(
+    input: &mut impl Read,
+    rt: &(impl Print + Eprint),
+    t: Tally,
+    there: usize,
+    room: &mut [u8],
+    out: &mut [u8],
+) -> After
     requires counted { (t.frames < 1000000) × (t.apart ≤ t.frames) }
     requires room { (there ≤ 20480) × (length room.old ≡ 20480) × (length out.old ≡ 4096) }
     ensures counted { (result.tally.frames ≤ 1000000) × (result.tally.apart ≤ result.tally.frames) }
     ensures room { result.there ≤ 20480 }
     ensures more { result.more ≡ true → t.frames < result.tally.frames }
 {
-    let got = io_streams::gather(there, 320, room);
-    if !io_streams::whole(got, 320) {
+    let got = io_streams::gather(input, there, 320, room);
+    if !io_streams::whole(rt, got, 320) {
         if !got.failed {
-            end(t.frames, t.apart);
+            end(rt, t.frames, t.apart);
         }
         return After {
             tally: t,
@@ -330,13 +338,14 @@ fn turn(t: Tally, there: usize, room: &mut [u8], out: &mut [u8]) -> After
     After {
         tally: next,
         there: rest,
-        more: io_streams::written(io::write_all(1, &out[0..length])),
+        more: io_streams::written(rt, rt.write_all(&out[0..length]).is_ok()),
     }
 }
 
 // The program must be shown to end, and nothing says that an input ends. So the frames are counted, up to 1,000,000,
 // which are five and a half hours of speech.
-fn main() {
+fn main(rt: HostRuntime) {
+    let mut input = rt.stdin();
     let mut room = [0; 20480];
     let mut out = [0; 4096];
     let mut tally = Tally {
@@ -349,12 +358,12 @@ fn main() {
     };
     let mut there: usize = 0;
     while tally.frames < 1000000 {
-        let t = turn(tally, there, &mut room, &mut out);
+        let t = turn(&mut input, &rt, tally, there, &mut room, &mut out);
         if !t.more {
             return;
         }
         tally = t.tally;
         there = t.there;
     }
-    end(1000000, tally.apart);
+    end(&rt, 1000000, tally.apart);
 }

@@ -7,8 +7,7 @@ use lib.ListN.{length, take}
 use mir.Syntax.{w16, w32}
 use mir.Val.{SFits, to_z, of_z}
 use borrow.Author.Rules.{rules}
-use Rattle.math_integers.specs.Ranges.{back, res}
-use Rattle.math_integers.specs.Needs.{by_4}
+use Rattle.math_integers.specs.Ranges.{back}
 use Rattle.math_lists.specs.Parts.{front_back, front_room}
 use Rattle.math_lists.specs.Scan.{run, run_length}
 use Rattle.standard.specs.Preprocessing.{offset, emphasis, downscaled}
@@ -51,28 +50,24 @@ module _ (s : Start) where
   d_length : length (back_again (whole.s c_of sop_of).1) ≡ 160
   d_length = rescaled_length _ _ ∙ (scaled_length _ _ ∙ s_length)
 
--- where the buffer for sof is ready
-abbrev ready : After-room-sof → Start
-ready c = c.before.before.before.before.before
-
 pub offset-kept-requires : goal.offset-kept-requires
 unfolding kept sound_coder
 offset-kept-requires c =
     let buffer = (goal.at.offset-kept-requires c).After-room-sof in
-    let s = ready buffer in
+    let s = (goal.at.offset-kept-requires c).Start in
     let room = ap length (ap (take 160) buffer.room-sof.ensures) in
     (room ∙ sym s.requires.0, rw (back (z1_fits s), back (l_z2_fits s)) s.requires.1.1)
 
 -- 4.2.1, 4.2.2
 module _ (t : After-offset-kept) where
   abbrev start : Start
-  start = ready t.before.before.before
+  start = (goal.at.After-offset-kept t).Start
 
   offset_state : kept t.offset-kept.result ≡ (whole.sof (c_of start) (sop_of start)).0
   unfolding kept
   offset_state = rw (back (z1_fits start), back (l_z2_fits start)) at t.offset-kept.ensures.state
 
-  offset_samples : t.offset-kept.last.1.1.0 ≡ (whole.sof (c_of start) (sop_of start)).1
+  offset_samples : t.offset-kept.new.sof ≡ (whole.sof (c_of start) (sop_of start)).1
   unfolding kept
   offset_samples = rw (back (z1_fits start), back (l_z2_fits start)) at t.offset-kept.ensures.samples
 
@@ -89,21 +84,21 @@ module _ (t : After-offset-kept) where
   offset_kept = rw (back z1_after, back l_z2_after) offset_state
 
   -- the samples as the next stage reads them, at the start of the buffer
-  sof_back : (rest : List ℤ) → take 160 (t.offset-kept.last.1.1.0 ++ rest) ≡ (whole.sof (c_of start) (sop_of start)).1
+  sof_back : (rest : List ℤ) → take 160 (t.offset-kept.new.sof ++ rest) ≡ (whole.sof (c_of start) (sop_of start)).1
   sof_back = front_back 160 offset_samples (sof_length start)
 
-  sof_room : (rest : List ℤ) → 160 ≤ length (t.offset-kept.last.1.1.0 ++ rest)
+  sof_room : (rest : List ℤ) → 160 ≤ length (t.offset-kept.new.sof ++ rest)
   sof_room = front_room 160 offset_samples (sof_length start)
 
 pub emphasis-mp-requires : goal.emphasis-mp-requires
 emphasis-mp-requires c =
-    let t = c.before.before.before.before in
+    let t = (goal.at.emphasis-mp-requires c).After-offset-kept in
     (start t).requires.1.0 ∙ sym (ap length (sof_back t _) ∙ sof_length (start t))
 
 -- 4.2.3
 module _ (e : After-emphasis-mp) where
   abbrev filters : After-offset-kept
-  filters = let lent : tie.After-sof3 = e.before.before.before in lent.before.before
+  filters = (goal.at.After-emphasis-mp e).After-offset-kept
 
   abbrev first : Start
   first = start filters
@@ -111,18 +106,18 @@ module _ (e : After-emphasis-mp) where
   mp_is : e.emphasis-mp.result ≡ (whole.s (c_of first) (sop_of first)).0
   mp_is = e.emphasis-mp.ensures.mp ∙ ap₂ (λ (mp : ℤ) (xs : List ℤ). (run emphasis mp xs).0) (back (mp_fits first)) (sof_back filters _)
 
-  s_is : e.emphasis-mp.last.1.1.0 ≡ (whole.s (c_of first) (sop_of first)).1
+  s_is : e.emphasis-mp.new.s ≡ (whole.s (c_of first) (sop_of first)).1
   s_is = e.emphasis-mp.ensures.samples ∙ ap₂ (λ (mp : ℤ) (xs : List ℤ). (run emphasis mp xs).1) (back (mp_fits first)) (sof_back filters _)
 
 pub measured-ratios-requires : goal.measured-ratios-requires
 measured-ratios-requires c =
-    let e = c.before.before in
+    let e = (goal.at.measured-ratios-requires c).After-emphasis-mp in
     rw (s_is e) (s_length (first e), emphasis_words (c_of (first e)).mp (whole.sof (c_of (first e)) (sop_of (first e))).1)
 
 -- 4.2.4 to 4.2.7
 module _ (t : After-measured-ratios) where
   abbrev heard : After-emphasis-mp
-  heard = t.before.before.before
+  heard = (goal.at.After-measured-ratios t).After-emphasis-mp
 
   abbrev from : Start
   from = first heard
@@ -130,21 +125,21 @@ module _ (t : After-measured-ratios) where
   codes_are : t.measured-ratios.result.larc ≡ whole.codes (c_of from) (sop_of from)
   codes_are = t.measured-ratios.ensures.larc ∙ ap (λ (s : List ℤ). ratio_codes (r (sums s))) (s_is heard)
 
-  back_is : t.decreases.last.0 ≡ back_again (whole.s (c_of from) (sop_of from)).1
-  back_is = t.measured-ratios.ensures.ending.1 ∙ ap back_again (s_is heard)
+  back_is : t.measured-ratios.new.s ≡ back_again (whole.s (c_of from) (sop_of from)).1
+  back_is = t.measured-ratios.ensures.samples ∙ ap back_again (s_is heard)
 
 pub filtered-after-requires : goal.filtered-after-requires
 filtered-after-requires c =
-    let t = c.before.before.before.before in
+    let t = (goal.at.filtered-after-requires c).After-measured-ratios in
     ap length (back_is t) ∙ d_length (from t)
 
 -- 4.2.8 to 4.2.10
 module _ (n : After-filtered-after) where
   abbrev decoded : After-ratios-new
-  decoded = n.before.before
+  decoded = (goal.at.After-filtered-after n).After-ratios-new
 
   abbrev coded : After-measured-ratios
-  coded = decoded.before.before.before
+  coded = (goal.at.After-filtered-after n).After-measured-ratios
 
   abbrev at-start : Start
   at-start = from coded
@@ -159,31 +154,27 @@ module _ (n : After-filtered-after) where
   u_is : n.filtered-after.result ≡ (whole.d (c_of at-start) (sop_of at-start)).0
   u_is =
       let new = decoded.ratios-new.result in
-      let given : n.filtered-after.result ≡ (lattice new coded.decreases.last.0).0 = n.filtered-after.ensures.u in
+      let given : n.filtered-after.result ≡ (lattice new coded.measured-ratios.new.s).0 = n.filtered-after.ensures.u in
       given ∙ ap₂ (λ (new xs : List ℤ). (lattice new xs).0) new_is (back_is coded)
 
-  d-is : n.filtered-after.last.1.1.1.0 ≡ (whole.d (c_of at-start) (sop_of at-start)).1
+  d-is : n.filtered-after.new.s ≡ (whole.d (c_of at-start) (sop_of at-start)).1
   d-is = n.filtered-after.ensures.d ∙ ap₂ (λ (new xs : List ℤ). (lattice new xs).1) new_is (back_is coded)
 
 pub returns : goal.returns
 returns c =
-    let n = c.before.before in
+    let n = (goal.at.returns c).After-filtered-after in
     let t = coded n in
     let e = heard t in
     let o = filters e in
     let s = at-start n in
     let m = c_of s in
     let sop = sop_of s in
-    let (codes-given, ending-given, d-given) = gives m sop in (
-      next_is m sop (offset_kept o) (res e.emphasis-mp ∙ mp_is e) (new_is n) (u_is n),
-      (
-        codes_are t ∙ sym codes-given,
-        (
-          t.measured-ratios.ensures.ending.0 ∙ (ap (λ (s : List ℤ). ending (sums s)) (s_is e) ∙ sym ending-given),
-          d-is n ∙ sym d-given,
-        ),
-      ),
-    )
+    let (codes-given, ending-given, d-given) = gives m sop in record {
+      next = next_is m sop (offset_kept o) (back {w = w16} (record { sfits = c.emphasis-mp.type_inv }) ∙ mp_is e) (new_is n) (u_is n);
+      larc = codes_are t ∙ sym codes-given;
+      ending = c.measured-ratios.ensures.ending ∙ (ap (λ (s : List ℤ). ending (sums s)) (s_is e) ∙ sym ending-given);
+      samples = d-is n ∙ sym d-given;
+    }
 
 pub slice_bounds-emphasis-end : goal.slice_bounds-emphasis-end
-slice_bounds-emphasis-end c = let h = sof_room c.before.before in search (rules, h)
+slice_bounds-emphasis-end c = let h = sof_room (goal.at.slice_bounds-emphasis-end c).After-offset-kept in search (rules, h)

@@ -1,12 +1,10 @@
 -- Turn i stores word i. The invariant says that the first i words are those of the file, and the rest is as it was.
-use Prim.Native.Nat.{◌-◌, ◌≤◌}
-use mathlib.Core.Path.{◌≡◌, sym, ◌∙◌}
+use mathlib.Core.Path.{sym, ◌∙◌}
 use native.Mathlib.Omega.{arith}
 use lib.IntN.{pos}
-use lib.ListN.{length, length-set}
-use borrow.Author.Rules.{rules}
+use lib.ListN.{length-set}
 use Rattle.math_integers.specs.Ranges.{res}
-use Rattle.math_lists.specs.Fill.{filled, fill_next, fill_end}
+use Rattle.math_lists.specs.Fill.{fill_next, fill_end}
 use Rattle.law_lengths.specs.Listing.{file_words_length}
 use Rattle.standard.specs.Files.{file_words}
 use Rattle.io_files.specs.Words.{word_at}

@@ -1,16 +1,10 @@
 -- Turn i stores word i. The invariant says that the first i words are those of the file, and the rest is as it was.
-use Prim.Native.Nat.{◌-◌, ◌≤◌}
-use mathlib.Core.Path.{◌≡◌, sym, ◌∙◌}
-use native.Mathlib.Omega.{arith}
-use lib.IntN.{pos}
-use lib.ListN.{length, length-set}
-use borrow.Author.Rules.{rules}
-use Rattle.math_integers.specs.Ranges.{res}
-use Rattle.math_lists.specs.Fill.{filled, fill_next, fill_end}
-use Rattle.law_lengths.specs.Listing.{file_words_length}
+use Prim.Native.Nat.{◌≤◌}
+use mathlib.Core.Path.{◌≡◌}
+use lib.ListN.{length}
+use Rattle.math_lists.specs.Fill.{filled}
 use Rattle.standard.specs.Files.{file_words}
-use Rattle.io_files.specs.Words.{word_at}
 use Rattle.io_files.proofs.from_bytes.Given as goal
 
 abbrev pub invariant-loop-i : goal.invariant-loop-i
-invariant-loop-i l =    (l.i ≤ length l.initial.words) × (length l.words ≡ length l.initial.words) × (l.words ≡ filled l.i (file_words l.bytes) l.initial.words)
+invariant-loop-i l = (l.i ≤ length l.initial.words) × (length l.words ≡ length l.initial.words) × (l.words ≡ filled l.i (file_words l.bytes) l.initial.words)

@@ -1,5 +1,4 @@
 -- The pattern modulo 256 fits a byte.
-use borrow.Author.Rules.{rules}
 use Rattle.math_integers.specs.Ranges.{back}
 use Rattle.io_files.proofs.low.Goals as goal
 

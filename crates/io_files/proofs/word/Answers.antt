@@ -6,10 +6,8 @@ use lib.IntN.{ℤ, pos, ◌-ℤ◌}
 use mir.Syntax.{w16, w32}
 use mir.Val.{SFits, to_z}
 use mir.Facts.{to_z_pos, sfits_to_z}
-use borrow.Author.Rules.{rules}
 use Rattle.math_integers.specs.Halves.{mem}
 use Rattle.math_integers.specs.Ranges.{back, wide}
-use Rattle.math_integers.specs.Needs.{by_4}
 use Rattle.io_files.specs.Words.{word_negative}
 use Rattle.io_files.proofs.word.Goals as goal
 use Rattle.io_files.proofs.word.Goals.{Else-n-lt32768}

@@ -26,13 +26,25 @@ behind there done k n e xs ys from within fits end =
 pub returns-then-more-eq0-clause-taken : goal.returns-then-more-eq0-clause-taken
 returns-then-more-eq0-clause-taken g c =
     let held = c.loop-done.invariant in
-    let part = behind c.args.there c.loop-done.done _ c.read-more.result.count c.loop-done.done c.loop-done.room c.read-more.new.room (omega arith) (omega arith) (omega arith) (omega arith) in
-    subst (Consumes _ _) (sym part) (Consumes-trans _ _ _ _ _ held.5 c.read-more.ensures.taken)
+    subst (Consumes _ _)
+    (sym (behind _ _ _ c.read-more.result.count c.loop-done.done _ _ held.0 held.1 c.read-more.ensures.room (omega arith)))
+    (Consumes-trans _ _ _ _ _ held.5 c.read-more.ensures.taken)
+
+-- the bytes before index `done` are not read into
+stands : (there done k : ℕ) (old xs ys : List ℕ) → there ≤ done → done ≤ length xs → take there xs ≡ take there old → take there (put_mid done k xs ys) ≡ take there old
+stands there done k old xs ys from within held = take-put_mid_below done k xs ys there from within ∙ held
 
 pub loop-done-preserved : goal.loop-done-preserved
 loop-done-preserved g c =
     let held = c.loop-done.invariant in
-    let n = c.read-more.result.count in
-    let part = behind c.args.there c.loop-done.done _ n (c.loop-done.done + n) c.loop-done.room c.read-more.new.room (omega arith) (omega arith) (omega arith) (search rules) in
-    let stands = take-put_mid_below c.loop-done.done _ c.loop-done.room c.read-more.new.room c.args.there (omega arith) (omega arith) ∙ held.3 in
-    (search rules, search rules, search rules, stands, λ h. absurd (omega arith), subst (Consumes _ _) (sym part) (Consumes-trans _ _ _ _ _ held.5 c.read-more.ensures.taken))
+    let done = c.loop-done.done in
+    let more = c.read-more.result.count in (
+      search rules,
+      search rules,
+      search rules,
+      stands _ _ _ _ _ _ held.0 held.1 held.3,
+      λ h. absurd (omega arith),
+      subst (Consumes _ _)
+          (sym (behind _ _ _ more (done + more) _ _ held.0 held.1 c.read-more.ensures.room (search rules)))
+          (Consumes-trans _ _ _ _ _ held.5 c.read-more.ensures.taken),
+    )

@@ -1,10 +1,9 @@
 -- Turn i copies byte i. The invariant says that the first i bytes are those of t and the rest is as it was.
-use Prim.Native.Nat.{◌-◌, ◌≤◌}
-use mathlib.Core.Path.{◌≡◌, refl}
+use mathlib.Core.Path.{refl}
 use native.Mathlib.Omega.{arith}
-use lib.ListN.{length, length-set}
+use lib.ListN.{length-set}
 use borrow.Author.Rules.{rules}
-use Rattle.math_lists.specs.Fill.{filled, fill_next, fill_end}
+use Rattle.math_lists.specs.Fill.{fill_next, fill_end}
 use Rattle.list_text.proofs.copied.Goals as goal
 
 pub loop-i-preserved : goal.loop-i-preserved

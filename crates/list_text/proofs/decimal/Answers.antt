@@ -4,7 +4,6 @@ use mathlib.Core.Path.{◌≡◌, sym, ap, ap₂, ◌∙◌}
 use mathlib.Core.List.{List}
 use native.Mathlib.Omega.{arith}
 use lib.ListN.{length, take, drop, length-take, length-drop}
-use borrow.Author.Rules.{rules}
 use Rattle.math_lists.specs.Parts.{put}
 use Rattle.standard.specs.Listing as standard
 use Rattle.list_text.specs.Fields.{digit_count, digit_count_most, decimal_length}

@@ -1,10 +1,10 @@
 -- The digits are stored from the right. The invariant: the digits of n are the last i digits of `rest`, and then what is
 -- stored from i on.
-use Prim.Native.Nat.{ℕ, suc, ◌+◌, ◌-◌, ◌≤◌}
+use Prim.Native.Nat.{ℕ, suc, ◌-◌}
 use mathlib.Core.Path.{◌≡◌, refl, sym, ap, ◌∙◌}
 use mathlib.Core.List.{◌++◌, append-nil}
 use native.Mathlib.Omega.{arith}
-use lib.ListN.{length, drop, length-set}
+use lib.ListN.{drop, length-set}
 use lib.Seq.{drop-length}
 use borrow.Author.Rules.{rules}
 use Rattle.standard.specs.Listing as standard

@@ -1,6 +1,5 @@
 -- The tab, and then the number after it: the law `puts_then` joins the two texts.
 use native.Mathlib.Omega.{arith}
-use borrow.Author.Rules.{rules}
 use Rattle.list_text.specs.Written.{puts_then}
 use Rattle.list_text.proofs.field.Goals as goal
 

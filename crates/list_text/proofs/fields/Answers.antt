@@ -1,11 +1,11 @@
 -- The invariant: the text of the first i words is put from `at` on, in at most 8 bytes for each. A turn puts the field of
 -- word i behind it (`puts_then`).
-use Prim.Native.Nat.{ℕ, ◌*◌, ◌+◌, ◌-◌, ◌≤◌}
+use Prim.Native.Nat.{ℕ, ◌≤◌}
 use mathlib.Core.Path.{◌≡◌, sym, ap, ◌∙◌, subst}
 use mathlib.Core.List.{List, ◌∷◌, map}
 use native.Mathlib.Omega.{arith}
 use lib.IntN.{ℤ, pos, nat_abs}
-use lib.ListN.{length, take, get_or}
+use lib.ListN.{length, get_or}
 use lib.Seq.{take_all}
 use mir.Syntax.{w16}
 use mir.Val.{SFits}

@@ -4,8 +4,6 @@ use mathlib.Core.Path.{◌≡◌, refl, ap₂}
 use mathlib.Core.List.{List}
 use native.Mathlib.Omega.{arith}
 use lib.ListN.{length}
-use borrow.Author.Rules.{rules}
-use Rattle.math_integers.specs.Needs.{by_4}
 use Rattle.math_lists.specs.Parts.{put}
 use Rattle.list_text.proofs.text.Goals as goal
 

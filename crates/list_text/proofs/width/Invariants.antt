@@ -1,16 +1,9 @@
 -- The invariant: the power is 10 ^ k, and no smaller number of digits than k is enough for n. An iteration whose power is not above n
 -- goes on to k + 1. Where the loop stops, k digits are enough.
-use Prim.Native.Nat.{ℕ, suc, ◌+◌, ◌-◌, ◌^◌, ◌<◌}
-use mathlib.Core.Path.{◌≡◌, refl, sym, ap, ◌∙◌}
-use mathlib.Core.Logic.{⊎_elim}
-use native.Mathlib.Nat.{pow-suc}
-use native.Mathlib.Numerals.{add-one}
-use native.Mathlib.Omega.{arith}
+use Prim.Native.Nat.{suc, ◌+◌, ◌-◌, ◌^◌, ◌<◌}
+use mathlib.Core.Path.{◌≡◌}
 use lib.Dec.{ltb}
-use borrow.Author.Rules.{rules}
-use borrow.Author.Tests.{lt-ltb, le-ltb}
-use Rattle.math_integers.specs.Halves.{le_or_lt}
-use Rattle.math_lists.specs.First.{first, first_here, first_later, first_end}
+use Rattle.math_lists.specs.First.{first}
 use Rattle.list_text.specs.Fields.{digit_count}
 use Rattle.list_text.proofs.width.Given as goal
 

@@ -1,22 +1,10 @@
 -- Iteration k stores the gain times the sample at 120 − lag + k of the history, by mult_r. That is entry k of dpp, so after 40
 -- iterations the array is dpp.
-use mathlib.Core.Path.{◌≡◌, refl, ap, ◌∙◌}
-use Prim.Native.Nat.{ℕ, ◌+◌, ◌-◌, ◌<◌, ◌≤◌}
-use native.Mathlib.Omega.{arith}
-use lib.IntN.{pos}
-use lib.ListN.{length, length-set, replicate}
-use mir.Syntax.{w16}
-use mir.Val.{SFits}
-use borrow.Author.Rules.{rules, sfits_of}
-use Rattle.math_integers.specs.Ranges.{back as local, res}
-use Rattle.math_integers.specs.Needs.{by_8}
-use Rattle.math_lists.specs.Fill.{filled, fill_next, fill_end}
-use Rattle.math_lists.specs.Tab.{map_at}
-use Rattle.standard.specs.Arithmetic.{mult_r}
-use Rattle.standard.specs.Tables.{◌at◌, QLB}
-use Rattle.standard.specs.LongTerm.{back, dpp}
-use Rattle.law_lengths.specs.Subframes.{Lag, back_length, dpp_length}
-use Rattle.law_loops.specs.Positions.{back_at}
+use mathlib.Core.Path.{◌≡◌}
+use Prim.Native.Nat.{◌-◌, ◌≤◌}
+use lib.ListN.{length}
+use Rattle.math_lists.specs.Fill.{filled}
+use Rattle.standard.specs.LongTerm.{dpp}
 use Rattle.long_filter.proofs.estimate.Given as goal
 
 abbrev pub invariant-loop-k : goal.invariant-loop-k

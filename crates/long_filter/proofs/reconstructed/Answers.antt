@@ -1,7 +1,6 @@
 -- Iteration k stores the sum of ep[k] and dpp[k], by add. After 40 iterations the buffer holds the 40 sums.
 use mathlib.Core.Path.{◌≡◌, refl, sym, ap₂, ◌∙◌}
 use mathlib.Core.List.{zip_with}
-use Prim.Native.Nat.{◌-◌, ◌≤◌}
 use native.Mathlib.Omega.{arith}
 use lib.IntN.{pos}
 use lib.ListN.{length, get_or, length-set}
@@ -9,8 +8,7 @@ use mir.Syntax.{w16}
 use mir.Val.{SFits}
 use borrow.Author.Rules.{rules}
 use Rattle.math_integers.specs.Ranges.{back, res}
-use Rattle.math_integers.specs.Needs.{by_8}
-use Rattle.math_lists.specs.Fill.{filled, fill_next, fill_end}
+use Rattle.math_lists.specs.Fill.{fill_next, fill_end}
 use Rattle.math_lists.specs.Tab.{zip_length, zip_at}
 use Rattle.standard.specs.Arithmetic.{add}
 use Rattle.long_filter.proofs.reconstructed.Goals as goal

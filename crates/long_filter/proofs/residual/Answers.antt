@@ -1,6 +1,5 @@
 -- Iteration k stores d[k] less dpp[k], by sub. After 40 iterations the array is the residual.
 use mathlib.Core.Path.{◌≡◌, refl, sym, ap₂, ◌∙◌}
-use Prim.Native.Nat.{◌-◌, ◌≤◌}
 use native.Mathlib.Omega.{arith}
 use lib.IntN.{pos}
 use lib.ListN.{length, length-set}
@@ -8,8 +7,7 @@ use mir.Syntax.{w16}
 use mir.Val.{SFits}
 use borrow.Author.Rules.{rules}
 use Rattle.math_integers.specs.Ranges.{back, res}
-use Rattle.math_integers.specs.Needs.{by_8}
-use Rattle.math_lists.specs.Fill.{filled, fill_next, fill_end}
+use Rattle.math_lists.specs.Fill.{fill_next, fill_end}
 use Rattle.math_lists.specs.Tab.{zip_at}
 use Rattle.standard.specs.Arithmetic.{sub}
 use Rattle.standard.specs.Tables.{◌at◌}

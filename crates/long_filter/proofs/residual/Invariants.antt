@@ -1,20 +1,9 @@
 -- Iteration k stores d[k] less dpp[k], by sub. After 40 iterations the array is the residual.
-use mathlib.Core.Path.{◌≡◌, refl, sym, ap₂, ◌∙◌}
+use mathlib.Core.Path.{◌≡◌}
 use Prim.Native.Nat.{◌-◌, ◌≤◌}
-use native.Mathlib.Omega.{arith}
-use lib.IntN.{pos}
-use lib.ListN.{length, length-set}
-use mir.Syntax.{w16}
-use mir.Val.{SFits}
-use borrow.Author.Rules.{rules}
-use Rattle.math_integers.specs.Ranges.{back, res}
-use Rattle.math_integers.specs.Needs.{by_8}
-use Rattle.math_lists.specs.Fill.{filled, fill_next, fill_end}
-use Rattle.math_lists.specs.Tab.{zip_at}
-use Rattle.standard.specs.Arithmetic.{sub}
-use Rattle.standard.specs.Tables.{◌at◌}
+use lib.ListN.{length}
+use Rattle.math_lists.specs.Fill.{filled}
 use Rattle.standard.specs.LongTerm.{residual}
-use Rattle.law_lengths.specs.Subframes.{residual_length}
 use Rattle.long_filter.proofs.residual.Given as goal
 
 abbrev pub invariant-loop-k : goal.invariant-loop-k

@@ -1,7 +1,6 @@
 -- One return for each outcome of the test, by the definition Nr with the same outcome.
 use mathlib.Core.Path.{◌≡◌, sym, ap, ◌∙◌}
 use mathlib.Core.Bool.{true, false}
-use borrow.Author.Rules.{rules}
 use Rattle.math_integers.specs.Ranges.{back}
 use Rattle.standard.specs.LongTerm.{is_lag}
 use Rattle.standard.specs.Decoder.{Nr}

@@ -1,14 +1,12 @@
 -- Iteration k copies sample k. After 120 iterations the array is the slice.
 use mir.Syntax.{w16}
-use mathlib.Core.Path.{◌≡◌, refl}
-use Prim.Native.Nat.{◌-◌, ◌≤◌}
+use mathlib.Core.Path.{refl}
 use native.Mathlib.Omega.{arith}
 use borrow.Author.Rules.{rules, sfits_of}
 use lib.IntN.{pos}
-use lib.ListN.{length, length-set}
+use lib.ListN.{length-set}
 use Rattle.math_integers.specs.Ranges.{back}
-use Rattle.math_integers.specs.Needs.{by_4}
-use Rattle.math_lists.specs.Fill.{filled, fill_next, fill_end}
+use Rattle.math_lists.specs.Fill.{fill_next, fill_end}
 use Rattle.long_history.proofs.last.Goals as goal
 
 pub loop-k-preserved : goal.loop-k-preserved

@@ -1,13 +1,8 @@
 -- Iteration k copies sample k. After 120 iterations the array is the slice.
-use mathlib.Core.Path.{◌≡◌, refl}
+use mathlib.Core.Path.{◌≡◌}
 use Prim.Native.Nat.{◌-◌, ◌≤◌}
-use native.Mathlib.Omega.{arith}
-use borrow.Author.Rules.{rules, sfits_of}
-use lib.IntN.{pos}
-use lib.ListN.{length, length-set}
-use Rattle.math_integers.specs.Ranges.{back}
-use Rattle.math_integers.specs.Needs.{by_4}
-use Rattle.math_lists.specs.Fill.{filled, fill_next, fill_end}
+use lib.ListN.{length}
+use Rattle.math_lists.specs.Fill.{filled}
 use Rattle.long_history.proofs.last.Given as goal
 
 abbrev pub invariant-loop-k : goal.invariant-loop-k

@@ -1,15 +1,13 @@
 -- The list starts as 280 zeros. Iteration k copies sample k, so the first 120 become the history and 160 zeros stay.
 use mir.Syntax.{w16}
 use mathlib.Core.Path.{◌≡◌, refl, ◌∙◌}
-use Prim.Native.Nat.{◌-◌, ◌≤◌}
 use native.Mathlib.Omega.{arith}
 use borrow.Author.Rules.{rules, sfits_of}
 use lib.IntN.{pos}
 use lib.ListN.{length, length-set, replicate}
 use lib.Seq.{take_all}
 use Rattle.math_integers.specs.Ranges.{back}
-use Rattle.math_integers.specs.Needs.{by_4}
-use Rattle.math_lists.specs.Fill.{filled, fill_next}
+use Rattle.math_lists.specs.Fill.{fill_next}
 use Rattle.long_history.proofs.remembered.Goals as goal
 
 pub loop-k-preserved : goal.loop-k-preserved

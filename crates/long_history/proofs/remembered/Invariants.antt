@@ -1,14 +1,8 @@
 -- The list starts as 280 zeros. Iteration k copies sample k, so the first 120 become the history and 160 zeros stay.
-use mathlib.Core.Path.{◌≡◌, refl, ◌∙◌}
+use mathlib.Core.Path.{◌≡◌}
 use Prim.Native.Nat.{◌-◌, ◌≤◌}
-use native.Mathlib.Omega.{arith}
-use borrow.Author.Rules.{rules, sfits_of}
-use lib.IntN.{pos}
-use lib.ListN.{length, length-set, replicate}
-use lib.Seq.{take_all}
-use Rattle.math_integers.specs.Ranges.{back}
-use Rattle.math_integers.specs.Needs.{by_4}
-use Rattle.math_lists.specs.Fill.{filled, fill_next}
+use lib.ListN.{length}
+use Rattle.math_lists.specs.Fill.{filled}
 use Rattle.long_history.proofs.remembered.Given as goal
 
 abbrev pub invariant-loop-k : goal.invariant-loop-k

@@ -1,7 +1,6 @@
 -- The two cases are the sign of r: the line of its absolute value, negated or not.
 use mathlib.Core.Path.{◌≡◌, ◌∙◌}
 use mathlib.Core.Bool.{true, false}
-use borrow.Author.Rules.{rules}
 use lib.IntN.{pos}
 use lib.Signed.{lt_z}
 use Rattle.math_integers.specs.Ranges.{back, res}

@@ -3,7 +3,6 @@ use mathlib.Core.Path.{◌∙◌}
 use borrow.Author.Rules.{rules}
 use mir.Syntax.{w16}
 use Rattle.math_integers.specs.Ranges.{back, res}
-use Rattle.math_integers.specs.Needs.{by_8}
 use Rattle.law_arithmetic.specs.Shift.{down_bits}
 use Rattle.standard.specs.Lpc.{LARc}
 use Rattle.lpc_logarea.proofs.larc.Goals as goal

@@ -1,6 +1,5 @@
 -- Iteration i stores LARc of LAR of r[i]. After eight iterations the array is `ratio_codes`.
-use Prim.Native.Nat.{◌-◌, ◌≤◌}
-use mathlib.Core.Path.{◌≡◌, refl, sym, ◌∙◌}
+use mathlib.Core.Path.{refl, sym, ◌∙◌}
 use native.Mathlib.Omega.{arith}
 use borrow.Author.Rules.{rules, sfits_of}
 use lib.IntN.{pos}
@@ -8,8 +7,7 @@ use lib.ListN.{replicate}
 use mir.Syntax.{w16}
 use mir.Val.{SFits}
 use Rattle.math_integers.specs.Ranges.{back, res}
-use Rattle.math_integers.specs.Needs.{by_8}
-use Rattle.math_lists.specs.Fill.{filled, fill_next, fill_end}
+use Rattle.math_lists.specs.Fill.{fill_next, fill_end}
 use Rattle.math_lists.specs.Tab.{tab_at_zero}
 use Rattle.standard.specs.Tables.{◌at◌}
 use Rattle.standard.specs.Lpc.{LAR, LARc, ratio_codes}

@@ -1,5 +1,5 @@
 -- Iteration i stores L_ACF[i] shifted by the norm of L_ACF[0]. The norm exists because L_ACF[0] is above 0.
-use Prim.Native.Nat.{ℕ, ◌-◌, ◌<◌, ◌≤◌}
+use Prim.Native.Nat.{ℕ, ◌<◌}
 use mathlib.Core.Path.{◌≡◌, refl}
 use mathlib.Core.List.{List}
 use native.Mathlib.Omega.{arith}
@@ -9,7 +9,7 @@ use lib.ListN.{length, replicate}
 use mir.Syntax.{w32}
 use mir.Val.{SFits}
 use Rattle.math_integers.specs.Ranges.{back, res}
-use Rattle.math_lists.specs.Fill.{filled, fill_next, fill_end}
+use Rattle.math_lists.specs.Fill.{fill_next, fill_end}
 use Rattle.math_lists.specs.Tab.{map_at}
 use Rattle.standard.specs.Arithmetic.{norm}
 use Rattle.standard.specs.Tables.{◌at◌}

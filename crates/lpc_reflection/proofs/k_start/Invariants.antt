@@ -1,14 +1,10 @@
 -- Iteration i makes one step of the standard's loop; what is left of that loop gives `K_start` at every iteration.
 use Prim.Native.Nat.{ℕ, ◌-◌, ◌≤◌}
-use mathlib.Core.Path.{◌≡◌, refl, sym, ◌∙◌}
+use mathlib.Core.Path.{◌≡◌}
 use mathlib.Core.List.{List}
-use native.Mathlib.Omega.{arith}
-use borrow.Author.Rules.{rules, sfits_of}
 use lib.IntN.{ℤ}
 use lib.ListN.{set}
-use Rattle.math_integers.specs.Ranges.{back}
-use Rattle.math_integers.specs.Needs.{by_4}
-use Rattle.math_lists.specs.Steps.{steps, steps_next, steps_end}
+use Rattle.math_lists.specs.Steps.{steps}
 use Rattle.standard.specs.Tables.{◌at◌}
 use Rattle.law_loops.specs.Recursion.{K_start}
 use Rattle.lpc_reflection.proofs.k_start.Given as goal

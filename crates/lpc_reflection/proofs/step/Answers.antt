@@ -1,5 +1,5 @@
 -- Iteration m makes one step of the standard's loop over P and K; what is left of that loop gives `PK_loop` at every iteration.
-use Prim.Native.Nat.{ℕ, ◌+◌, ◌-◌, ◌≤◌}
+use Prim.Native.Nat.{ℕ, ◌+◌, ◌-◌}
 use mathlib.Core.Path.{◌≡◌, refl, sym, ap, ◌∙◌}
 use mathlib.Core.List.{List}
 use native.Mathlib.Omega.{arith}
@@ -8,11 +8,10 @@ use lib.IntN.{ℤ, pos}
 use lib.ListN.{set}
 use lib.Seq.{get_or-set_other}
 use mir.Syntax.{w16}
-use mir.Val.{SFits, to_z}
+use mir.Val.{SFits}
 use Rattle.math_integers.specs.Halves.{mem}
 use Rattle.math_integers.specs.Ranges.{back, res}
-use Rattle.math_integers.specs.Needs.{by_4, by_12}
-use Rattle.math_lists.specs.Steps.{steps, steps_next, steps_end}
+use Rattle.math_lists.specs.Steps.{steps_next, steps_end}
 use Rattle.standard.specs.Arithmetic.{add, mult_r}
 use Rattle.standard.specs.Tables.{◌at◌}
 use Rattle.law_loops.specs.Recursion.{PK_turn, PK_loop}

@@ -1,10 +1,9 @@
 -- The invariant is `Filling` at the place after the ratios and j sub-frames. After the fourth only the last byte is left.
-use Prim.Native.Nat.{◌+◌, ◌*◌, ◌-◌, ◌≤◌, ◌<◌}
+use Prim.Native.Nat.{◌<◌}
 use native.Mathlib.Omega.{arith}
 use lib.ListN.{length-set}
-use borrow.Author.Rules.{rules}
 use Rattle.packing.specs.Bits.{more_bits}
-use Rattle.packing.specs.Turns.{Filling, pack_end}
+use Rattle.packing.specs.Turns.{pack_end}
 use Rattle.packing.proofs.fill_bytes.Goals as goal
 use Rattle.packing.proofs.fill_bytes.Goals.{After-larc_bytes-waiting, After-loop-j, At-loop-j, Start}
 

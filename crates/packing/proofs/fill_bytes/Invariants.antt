@@ -1,10 +1,6 @@
 -- The invariant is `Filling` at the place after the ratios and j sub-frames. After the fourth only the last byte is left.
-use Prim.Native.Nat.{◌+◌, ◌*◌, ◌-◌, ◌≤◌, ◌<◌}
-use native.Mathlib.Omega.{arith}
-use lib.ListN.{length-set}
-use borrow.Author.Rules.{rules}
-use Rattle.packing.specs.Bits.{more_bits}
-use Rattle.packing.specs.Turns.{Filling, pack_end}
+use Prim.Native.Nat.{◌+◌, ◌*◌, ◌-◌, ◌≤◌}
+use Rattle.packing.specs.Turns.{Filling}
 use Rattle.packing.proofs.fill_bytes.Given as goal
 
 abbrev pub invariant-loop-j : goal.invariant-loop-j

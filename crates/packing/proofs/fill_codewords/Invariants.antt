@@ -1,8 +1,6 @@
 -- The invariant is `Reading` at the place after the ratios and j sub-frames. After the fourth all codewords are written.
 use Prim.Native.Nat.{◌+◌, ◌*◌, ◌-◌, ◌≤◌}
-use native.Mathlib.Omega.{arith}
-use borrow.Author.Rules.{rules}
-use Rattle.packing.specs.Turns.{Reading, unpack_end}
+use Rattle.packing.specs.Turns.{Reading}
 use Rattle.packing.proofs.fill_codewords.Given as goal
 
 abbrev pub invariant-loop-j : goal.invariant-loop-j

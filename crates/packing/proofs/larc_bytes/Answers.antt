@@ -1,11 +1,9 @@
 -- Eight turns of `put`. With 36 bits read and fewer than eight waiting, four bytes are written and four bits wait.
-use Prim.Native.Nat.{◌-◌, ◌≤◌}
 use mathlib.Core.Path.{◌∙◌}
 use native.Mathlib.Omega.{arith}
-use borrow.Author.Rules.{rules}
 use Rattle.frame_codewords.specs.Widths.{width_first}
 use Rattle.packing.specs.Waiting.{moving_start}
-use Rattle.packing.specs.Turns.{Filling, filling_at}
+use Rattle.packing.specs.Turns.{filling_at}
 use Rattle.packing.proofs.larc_bytes.Goals as goal
 
 pub loop-i-init : goal.loop-i-init

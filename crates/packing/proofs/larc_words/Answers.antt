@@ -1,11 +1,9 @@
 -- Eight turns of `take`. With 36 bits given and fewer than eight waiting, five bytes are read and four bits wait.
-use Prim.Native.Nat.{◌-◌, ◌≤◌}
 use mathlib.Core.Path.{◌∙◌}
 use native.Mathlib.Omega.{arith}
-use borrow.Author.Rules.{rules}
 use Rattle.frame_codewords.specs.Widths.{width_first}
 use Rattle.packing.specs.Waiting.{moving_start}
-use Rattle.packing.specs.Turns.{Reading, reading_at}
+use Rattle.packing.specs.Turns.{reading_at}
 use Rattle.packing.proofs.larc_words.Goals as goal
 
 pub loop-i-init : goal.loop-i-init

@@ -1,11 +1,6 @@
 -- Eight turns of `take`. With 36 bits given and fewer than eight waiting, five bytes are read and four bits wait.
 use Prim.Native.Nat.{◌-◌, ◌≤◌}
-use mathlib.Core.Path.{◌∙◌}
-use native.Mathlib.Omega.{arith}
-use borrow.Author.Rules.{rules}
-use Rattle.frame_codewords.specs.Widths.{width_first}
-use Rattle.packing.specs.Waiting.{moving_start}
-use Rattle.packing.specs.Turns.{Reading, reading_at}
+use Rattle.packing.specs.Turns.{Reading}
 use Rattle.packing.proofs.larc_words.Given as goal
 
 abbrev pub invariant-loop-i : goal.invariant-loop-i

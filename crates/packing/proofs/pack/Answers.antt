@@ -2,8 +2,6 @@
 -- fill_bytes may be called.
 use mathlib.Core.Path.{◌≡◌, sym, ◌∙◌}
 use lib.ListN.{length}
-use borrow.Author.Rules.{rules}
-use borrow.Author.Tests.{not-true, not-false}
 use Rattle.packing.specs.Returns.{lengths_right, pack_0, pack_lengths, pack_5}
 use Rattle.packing.proofs.pack.Goals as goal
 use Rattle.packing.proofs.pack.Goals.{After-length_refusal-wrong}

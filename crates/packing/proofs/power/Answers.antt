@@ -1,5 +1,4 @@
 -- 1 shifted left by n, at most 15, is 2 to the n: the law `power` of frame_codewords.
-use borrow.Author.Rules.{rules}
 use Rattle.frame_codewords.specs.Bits.{power}
 use Rattle.packing.proofs.power.Goals as goal
 

@@ -1,7 +1,7 @@
 -- One turn of pack: a codeword goes above the bits that wait (`pack_in`), and from eight bits on the lowest are a byte
 -- (`pack_out`). At most 7 bits wait before it and a field has at most 7, so all fits.
 use Prim.Native.Nat.{◌+◌, ◌≤◌}
-use mathlib.Core.Path.{◌≡◌, ap}
+use mathlib.Core.Path.{ap}
 use native.Mathlib.Omega.{arith}
 use lib.IntN.{pos, nat_abs}
 use lib.ListN.{get_or, length-set}

@@ -1,10 +1,9 @@
 -- Seventeen turns of `put`. With 56 bits more read and fewer than eight waiting, seven bytes more are written and four bits wait.
-use Prim.Native.Nat.{◌+◌, ◌*◌, ◌-◌, ◌≤◌}
+use Prim.Native.Nat.{◌+◌, ◌*◌}
 use mathlib.Core.Path.{◌∙◌, ◌≡◌}
 use native.Mathlib.Omega.{arith}
-use borrow.Author.Rules.{rules}
 use Rattle.frame_codewords.specs.Widths.{width_sub}
-use Rattle.packing.specs.Turns.{Filling, filling_at}
+use Rattle.packing.specs.Turns.{filling_at}
 use Rattle.packing.proofs.sub_bytes.Goals as goal
 
 pub put-q-requires : goal.put-q-requires

@@ -1,10 +1,6 @@
 -- Seventeen turns of `put`. With 56 bits more read and fewer than eight waiting, seven bytes more are written and four bits wait.
 use Prim.Native.Nat.{◌+◌, ◌*◌, ◌-◌, ◌≤◌}
-use mathlib.Core.Path.{◌∙◌, ◌≡◌}
-use native.Mathlib.Omega.{arith}
-use borrow.Author.Rules.{rules}
-use Rattle.frame_codewords.specs.Widths.{width_sub}
-use Rattle.packing.specs.Turns.{Filling, filling_at}
+use Rattle.packing.specs.Turns.{Filling}
 use Rattle.packing.proofs.sub_bytes.Given as goal
 
 abbrev pub invariant-loop-i : goal.invariant-loop-i

@@ -1,10 +1,9 @@
 -- Seventeen turns of `take`. With 56 bits more given and fewer than eight waiting, seven bytes more are read and four bits wait.
-use Prim.Native.Nat.{◌+◌, ◌*◌, ◌-◌, ◌≤◌}
+use Prim.Native.Nat.{◌+◌, ◌*◌}
 use mathlib.Core.Path.{◌∙◌, ◌≡◌}
 use native.Mathlib.Omega.{arith}
-use borrow.Author.Rules.{rules}
 use Rattle.frame_codewords.specs.Widths.{width_sub}
-use Rattle.packing.specs.Turns.{Reading, reading_at}
+use Rattle.packing.specs.Turns.{reading_at}
 use Rattle.packing.proofs.sub_words.Goals as goal
 
 pub loop-i-init : goal.loop-i-init

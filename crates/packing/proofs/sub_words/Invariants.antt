@@ -1,10 +1,6 @@
 -- Seventeen turns of `take`. With 56 bits more given and fewer than eight waiting, seven bytes more are read and four bits wait.
 use Prim.Native.Nat.{◌+◌, ◌*◌, ◌-◌, ◌≤◌}
-use mathlib.Core.Path.{◌∙◌, ◌≡◌}
-use native.Mathlib.Omega.{arith}
-use borrow.Author.Rules.{rules}
-use Rattle.frame_codewords.specs.Widths.{width_sub}
-use Rattle.packing.specs.Turns.{Reading, reading_at}
+use Rattle.packing.specs.Turns.{Reading}
 use Rattle.packing.proofs.sub_words.Given as goal
 
 abbrev pub invariant-loop-i : goal.invariant-loop-i

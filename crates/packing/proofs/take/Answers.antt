@@ -9,7 +9,6 @@ use native.Mathlib.Nat.{mod-lt}
 use native.Mathlib.Omega.{arith}
 use lib.Pow.{pow_pos}
 use lib.ListN.{length-set, get_or}
-use borrow.Author.Rules.{rules}
 use Rattle.math_integers.specs.Halves.{zar}
 use Rattle.math_integers.specs.Ranges.{back}
 use Rattle.packing.specs.Bits.{more_bits}

@@ -3,7 +3,6 @@
 use mathlib.Core.Path.{◌≡◌, sym, ◌∙◌}
 use native.Mathlib.Omega.{arith}
 use lib.ListN.{length}
-use borrow.Author.Rules.{rules}
 use Rattle.packing.specs.Returns.{lengths_right, unpack_0, unpack_lengths, unpack_6, spare_none, spare_some}
 use Rattle.packing.proofs.unpack.Goals as goal
 use Rattle.packing.proofs.unpack.Goals.{After-length_refusal-wrong}

@@ -89,7 +89,7 @@ loop-j-init c =
         p_length = search rules;
         q_length = refl;
         kept_length = refl;
-        Along = rw e (along_start (stage 159) (s, s) (zip (columns (first r) (second r) (third r) (fourth r)) (cells r)) _);
+        along = rw e (along_start (stage 159) (s, s) (zip (columns (first r) (second r) (third r) (fourth r)) (cells r)) _);
       },
     )
 
@@ -194,7 +194,7 @@ returns c =
     r.coefficients-first.ensures r.coefficients-second.ensures r.coefficients-third.ensures
     r.coefficients-fourth.ensures in
     let m = pairs_eight (first r) (second r) (third r) (fourth r) (cells r) (eight r).0 in
-    let (f, g) = along_end (stage 159) _ _ d.Along (omega (arith, m)) (omega (arith, d.kept_length)) in
+    let (f, g) = along_end (stage 159) _ _ d.along (omega (arith, m)) (omega (arith, d.kept_length)) in
     record { u = rw w g; d = rw w (ap (λ (t : List ℤ × List ℤ). t.0) f) }
 
 -- the address of a word among eight does not wrap

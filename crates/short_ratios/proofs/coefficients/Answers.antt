@@ -1,5 +1,4 @@
 -- Iteration i stores rp of LARp at i. After eight iterations the array is `rps`.
-use Prim.Native.Nat.{◌-◌, ◌≤◌}
 use mathlib.Core.Path.{◌≡◌, refl}
 use native.Mathlib.Omega.{arith}
 use borrow.Author.Rules.{rules}
@@ -8,8 +7,7 @@ use lib.ListN.{length, replicate}
 use mir.Syntax.{w16}
 use mir.Val.{SFits}
 use Rattle.math_integers.specs.Ranges.{back, res}
-use Rattle.math_integers.specs.Needs.{by_8}
-use Rattle.math_lists.specs.Fill.{filled, fill_next, fill_end}
+use Rattle.math_lists.specs.Fill.{fill_next, fill_end}
 use Rattle.standard.specs.Tables.{◌at◌}
 use Rattle.short_ratios.specs.Stretches.{rps, rps_length, rps_at}
 use Rattle.short_ratios.proofs.coefficients.Goals as goal

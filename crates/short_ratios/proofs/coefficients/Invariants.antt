@@ -1,17 +1,8 @@
 -- Iteration i stores rp of LARp at i. After eight iterations the array is `rps`.
 use Prim.Native.Nat.{◌-◌, ◌≤◌}
-use mathlib.Core.Path.{◌≡◌, refl}
-use native.Mathlib.Omega.{arith}
-use borrow.Author.Rules.{rules}
-use lib.IntN.{pos}
-use lib.ListN.{length, replicate}
-use mir.Syntax.{w16}
-use mir.Val.{SFits}
-use Rattle.math_integers.specs.Ranges.{back, res}
-use Rattle.math_integers.specs.Needs.{by_8}
-use Rattle.math_lists.specs.Fill.{filled, fill_next, fill_end}
-use Rattle.standard.specs.Tables.{◌at◌}
-use Rattle.short_ratios.specs.Stretches.{rps, rps_length, rps_at}
+use mathlib.Core.Path.{◌≡◌}
+use Rattle.math_lists.specs.Fill.{filled}
+use Rattle.short_ratios.specs.Stretches.{rps}
 use Rattle.short_ratios.proofs.coefficients.Given as goal
 
 abbrev pub invariant-loop-i : goal.invariant-loop-i

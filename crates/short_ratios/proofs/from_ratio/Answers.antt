@@ -1,9 +1,7 @@
 -- The two calls of `lesser` give the least of the three lines, and that is the piecewise line (`least_is`).
 use mathlib.Core.Path.{◌∙◌}
 use mir.Syntax.{w16}
-use borrow.Author.Rules.{rules}
 use Rattle.math_integers.specs.Ranges.{back, res}
-use Rattle.math_integers.specs.Needs.{by_4}
 use Rattle.law_arithmetic.specs.Shift.{down_bits}
 use Rattle.short_ratios.specs.Least.{least_is}
 use Rattle.short_ratios.proofs.from_ratio.Goals as goal

@@ -1,10 +1,8 @@
 -- Four cases of j. In each the shifts and sums of the code are those of the stretch's interpolation.
 use mathlib.Core.Path.{sym, ◌∙◌}
 use native.Mathlib.Omega.{arith}
-use borrow.Author.Rules.{rules}
 use mir.Syntax.{w16}
 use Rattle.math_integers.specs.Ranges.{back, res}
-use Rattle.math_integers.specs.Needs.{by_4}
 use Rattle.law_arithmetic.specs.Shift.{down_bits}
 use Rattle.standard.specs.ShortTerm.{stretches}
 use Rattle.short_ratios.specs.Stretches.{LARp, LARp_last}

@@ -2,7 +2,6 @@
 use borrow.Author.Rules.{rules}
 use mir.Syntax.{w16}
 use Rattle.math_integers.specs.Ranges.{back, res}
-use Rattle.math_integers.specs.Needs.{by_4}
 use Rattle.law_arithmetic.specs.Shift.{up_bits}
 use Rattle.standard.specs.ShortTerm.{LARpp}
 use Rattle.short_ratios.proofs.larpp.Goals as goal

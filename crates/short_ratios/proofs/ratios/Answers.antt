@@ -1,6 +1,5 @@
 -- Iteration i stores LARpp of codeword i. After eight iterations the array is `ratios`.
-use Prim.Native.Nat.{◌-◌, ◌≤◌}
-use mathlib.Core.Path.{◌≡◌, refl}
+use mathlib.Core.Path.{refl}
 use native.Mathlib.Omega.{arith}
 use borrow.Author.Rules.{rules}
 use lib.IntN.{pos}
@@ -8,8 +7,7 @@ use lib.ListN.{replicate}
 use mir.Syntax.{w16}
 use mir.Val.{SFits}
 use Rattle.math_integers.specs.Ranges.{back, res}
-use Rattle.math_integers.specs.Needs.{by_4}
-use Rattle.math_lists.specs.Fill.{filled, fill_next, fill_end}
+use Rattle.math_lists.specs.Fill.{fill_next, fill_end}
 use Rattle.math_lists.specs.Tab.{tab_at_zero}
 use Rattle.standard.specs.Tables.{◌at◌}
 use Rattle.standard.specs.ShortTerm.{LARpp, ratios}

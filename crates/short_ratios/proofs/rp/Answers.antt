@@ -1,7 +1,6 @@
 -- The absolute value is not negative, as `from_ratio` asks. The two cases are the sign of the ratio.
 use mathlib.Core.Path.{◌≡◌}
 use mathlib.Core.Bool.{true, false}
-use borrow.Author.Rules.{rules}
 use lib.IntN.{pos}
 use lib.Signed.{lt_z}
 use mir.Syntax.{w16}

@@ -7,7 +7,6 @@ use lib.IntN.{ℤ, pos, ◌+ℤ◌, ◌*ℤ◌}
 use lib.Pow.{pow_mono}
 use mir.Syntax.{w16}
 use mir.Val.{SFits, to_z, of_z}
-use borrow.Author.Rules.{rules}
 use Rattle.math_integers.specs.Halves.{P, N, zar, mem}
 use Rattle.math_integers.specs.Sums.{add_is, scale_is}
 use Rattle.math_integers.specs.Ranges.{back}

@@ -1,6 +1,6 @@
 -- Turn i stores what `stray` says of codeword i. The invariant says that the first i are stored and the rest is as it was, so
 -- a turn reads the codeword as it was at the start.
-use Prim.Native.Nat.{ℕ, ◌-◌, ◌^◌, ◌<◌, ◌≤◌}
+use Prim.Native.Nat.{ℕ, ◌^◌, ◌<◌}
 use mathlib.Core.Path.{◌≡◌, refl}
 use mathlib.Core.Bool.{true}
 use mathlib.Core.List.{List, zip_with, flatten}

@@ -1,24 +1,20 @@
 -- The invariant: the test of the lags from sub-frame n on gives what the test of all gives. A turn tests the lag at 8 + 17 * n,
 -- which is where sub-frame n starts; one that fails decides the whole.
-use Prim.Native.Nat.{ℕ, ◌+◌, ◌*◌, ◌-◌, ◌<◌, ◌≤◌}
+use Prim.Native.Nat.{ℕ, ◌+◌, ◌*◌, ◌<◌}
 use mathlib.Core.Path.{◌≡◌, refl, sym, ◌∙◌}
-use mathlib.Core.Bool.{Bool, ◌&&◌}
-use mathlib.Core.List.{List}
+use mathlib.Core.Bool.{◌&&◌}
 use native.Mathlib.Omega.{arith}
-use lib.IntN.{ℤ}
 use lib.ListN.{drop, get_or}
 use mir.Syntax.{w16}
 use mir.Val.{SFits}
 use borrow.Author.Rules.{rules, sfits_of}
 use borrow.Author.Tests.{not-true, not-false}
 use Rattle.math_integers.specs.Ranges.{back}
-use Rattle.math_integers.specs.Needs.{by_4}
 use Rattle.math_lists.specs.Every.{every, every_next, every_end}
 use Rattle.math_lists.specs.Tab.{tab}
 use Rattle.math_lists.specs.For.{tab_each}
 use Rattle.standard.specs.Tables.{◌at◌}
 use Rattle.standard.specs.Frame.{places}
-use Rattle.standard.specs.LongTerm.{is_lag}
 use Rattle.test_agreement.proofs.lags.Invariants.{lag-at}
 use Rattle.test_agreement.proofs.lags.Goals as goal
 use Rattle.test_agreement.proofs.lags.Goals.{After-is_lag}

@@ -1,6 +1,6 @@
 -- The limit less b fits in 32 bits, because only the limit that b can pass is used. The test then says whether the sum is beyond it.
 use mathlib.Core.Path.{◌≡◌, sym, ◌∙◌}
-use lib.IntN.{ℤ, pos, negsuc, ◌+ℤ◌, ◌-ℤ◌}
+use lib.IntN.{pos, negsuc, ◌+ℤ◌, ◌-ℤ◌}
 use mir.Syntax.{w32}
 use mir.Val.{SFits}
 use Rattle.math_integers.specs.Halves.{zar, know, mem, apart}

@@ -1,6 +1,6 @@
 -- The product fits in 32 bits. Its double does too, unless the product is 2 ^ 30, which the test catches; the clip then gives the limit.
 use mathlib.Core.Path.{◌≡◌, sym, ◌∙◌}
-use lib.IntN.{ℤ, ◌+ℤ◌, ◌*ℤ◌}
+use lib.IntN.{◌+ℤ◌, ◌*ℤ◌}
 use mir.Syntax.{w16, w32}
 use Rattle.math_integers.specs.Halves.{zar, mem}
 use Rattle.math_integers.specs.Sums.{add_is}

@@ -1,6 +1,6 @@
 -- As in l_add: the limit plus b fits in 32 bits, and the test says whether the difference is beyond the limit.
 use mathlib.Core.Path.{◌≡◌, sym, ◌∙◌}
-use lib.IntN.{ℤ, pos, negsuc, ◌+ℤ◌, ◌-ℤ◌}
+use lib.IntN.{pos, negsuc, ◌+ℤ◌, ◌-ℤ◌}
 use mir.Syntax.{w32}
 use mir.Val.{SFits}
 use Rattle.math_integers.specs.Halves.{zar, know, mem, apart}

@@ -1,0 +1,17 @@
+-- Turn i takes frame i and puts what it gives behind the frames before it: the laws of `Coding`.
+use native.Mathlib.Omega.{arith}
+use borrow.Author.Rules.{rules}
+use Rattle.io_streams.specs.Frames.{coding_start, coding_next, coding_end}
+use Rattle.decode.specs.Frame.{decoded}
+use Rattle.decode.proofs.code.Goals as goal
+
+pub loop-i-init : goal.loop-i-init
+loop-i-init c = search coding_start
+
+pub loop-i-preserved : goal.loop-i-preserved
+loop-i-preserved c =
+    let done = c.frame-state.ensures in
+    coding_next decoded 152 320 c.loop-i.invariant (omega arith) (omega arith) (search rules) done.state done.bytes
+
+pub returns : goal.returns
+returns c = coding_end decoded 152 320 c.loop-i.invariant (omega arith)

@@ -1,0 +1,195 @@
+-- The steps in order: the analysis is the definition's, from the state as it was passed; the codes of the ratios are the first
+-- eight codewords; the sub-frames read d and the history. What the steps give is put together by the laws of `Whole`.
+use Prim.Native.Nat.{◌≤◌}
+use mathlib.Core.Path.{◌≡◌, refl, ap, ap₂, ◌∙◌}
+use mathlib.Core.Option.{some}
+use mathlib.Core.List.{List, ◌++◌}
+use native.Mathlib.Omega.{arith}
+use lib.IntN.{ℤ, pos}
+use lib.ListN.{length, take, drop, replicate, length-replicate, length-drop}
+use lib.Seq.{take_at, drop-append-le}
+use mir.Syntax.{w16, w32}
+use mir.Val.{SFits}
+use borrow.Author.Rules.{rules}
+use Rattle.math_integers.specs.Ranges.{back}
+use Rattle.math_lists.specs.Parts.{front_back, front_room}
+use Rattle.standard.specs.Coder.{Coder, analysis}
+use Rattle.standard.specs.House.{sound_coder}
+use Rattle.law_lengths.specs.Analysis.{analysis_codes_length, analysis_d_length}
+use Rattle.lpc_reflection.specs.Promise.{ended}
+use Rattle.long_history.specs.Window.{lent_history}
+use Rattle.frame_analysis.specs.Whole.{coder_of}
+use Rattle.encoder.specs.Promise.{coder, marks}
+use Rattle.encoder.specs.Subframes.{dp₄, four_words, four_marks, four_added, four_length, four_last}
+use Rattle.encoder.specs.Whole.{unseen, with_history, steps_are}
+use Rattle.encoder.proofs.frame.Goals as goal
+use Rattle.encoder.proofs.frame.Goals.{After-d-1, After-dp-1, After-frame-a, After-larc-1, After-new-1, After-ratios, After-remembered-dp, After-room-d, After-sub_frames-marks, Start}
+
+-- the state and the samples that it starts from
+module _ (s : Start) where
+  abbrev c_of : Coder
+  c_of = coder s.args.e
+
+  abbrev sop : List ℤ
+  sop = s.args.samples.now
+
+  abbrev d-of : List ℤ
+  d-of = (analysis (unseen c_of) sop).d
+
+  z1_fits : SFits w16 s.args.e.z1
+  z1_fits = search rules
+
+  l_z2_fits : SFits w32 s.args.e.l_z2
+  l_z2_fits = search rules
+
+  mp_fits : SFits w16 s.args.e.mp
+  mp_fits = search rules
+
+  history : length s.args.e.dp ≡ 120
+  history = search rules
+
+  d_length : length d-of ≡ 160
+  d_length = analysis_d_length (unseen c_of) sop ∙ omega (arith, s.requires.0)
+
+-- ---- points of the code
+
+-- where the buffer for d is ready, from where its part is taken
+abbrev ready : After-d-1 → After-room-d
+ready c = c.before.before
+
+-- the start, from there
+abbrev before-room : After-room-d → Start
+before-room c = c.before.before.before.before
+
+-- the end of the analysis, from where its parts are taken out
+abbrev analysed : After-larc-1 → After-frame-a
+analysed c = c.before.before.before
+
+-- the codes of the ratios in place, from where the history is in place
+abbrev ratios-placed : After-remembered-dp → After-ratios
+ratios-placed c = c.before.before
+
+-- the history in place, from where the sub-frames' parts are taken
+abbrev history-placed : After-dp-1 → After-remembered-dp
+history-placed c = c.before.before.before
+
+-- the end of the four sub-frames, from where the new state is put together
+abbrev four-done : After-new-1 → After-sub_frames-marks
+four-done c = c.before.before.before
+
+-- ---- the steps
+
+pub frame-a-requires : goal.frame-a-requires
+unfolding coder sound_coder
+frame-a-requires c κs =
+    let r = ready c in
+    let s = before-room r in
+    (s.requires.0, (ap length (ap (take 160) r.room-d.ensures), rw (back (z1_fits s), back (l_z2_fits s)) s.requires.1.1))
+
+-- 4.2.0 to 4.2.10
+module _ (t : After-frame-a) where
+  abbrev start : Start
+  start = before-room (ready t.before)
+
+  -- what is kept, the codes, the ending and d are those of the analysis
+  analysed_is : let a = analysis (unseen (c_of start)) (sop start) in let r = t.frame-a.result in
+      (coder_of r.next ≡ a.next) × ((r.larc ≡ a.LARc) × ((ended r.ending ≡ a.ending) × (t.frame-a.new.signal ≡ a.d)))
+  unfolding coder
+  analysed_is = rw (back (z1_fits start), back (l_z2_fits start), back (mp_fits start)) at t.frame-a.ensures
+
+  d-is : t.frame-a.new.signal ≡ d-of start
+  d-is = analysed_is.1.1.1
+
+  z1_after : SFits w16 t.frame-a.result.next.z1
+  z1_after = search rules
+
+  l_z2_after : SFits w32 t.frame-a.result.next.l_z2
+  l_z2_after = search rules
+
+  mp_after : SFits w16 t.frame-a.result.next.mp
+  mp_after = search rules
+
+  -- d as the sub-frames read it, at the front of the buffer that was passed
+  d_back : (rest : List ℤ) → take 160 (t.frame-a.new.signal ++ rest) ≡ d-of start
+  d_back = front_back 160 d-is (d_length start)
+
+  d_room : (rest : List ℤ) → 160 ≤ length (t.frame-a.new.signal ++ rest)
+  d_room = front_room 160 d-is (d_length start)
+
+-- 4.2.11 to 4.2.18
+module _ (q : After-sub_frames-marks) where
+  abbrev kept : After-remembered-dp
+  kept = history-placed q.before.before
+
+  abbrev coded : After-ratios
+  coded = ratios-placed kept
+
+  abbrev found : After-frame-a
+  found = analysed coded.before.before
+
+  abbrev begun : Start
+  begun = start found
+
+  -- the history as the sub-frames read it
+  dp_lent : take 120 (take 280 kept.remembered-dp.result) ≡ begun.args.e.dp
+  dp_lent =
+      ap (λ (y : List ℤ). take 120 (take 280 y)) kept.remembered-dp.ensures
+      ∙ lent_history begun.args.e.dp (replicate 160 (pos 0)) (history begun) (length-replicate 160 (pos 0))
+
+  -- the codes of the ratios in front of the codewords
+  larc_put : coded.ratios.new.c ≡ found.frame-a.result.larc
+  larc_put = coded.ratios.ensures
+
+  larc_lent : (rest : List ℤ) → take 8 (coded.ratios.new.c ++ rest) ≡ found.frame-a.result.larc
+  larc_lent rest =
+      let l = ap length (analysed_is found).1.0 ∙ analysis_codes_length (unseen (c_of begun)) (sop begun) in
+      front_back 8 larc_put l rest
+
+  marks_given : marks q.sub_frames-marks.result ≡ four_marks begun.args.e.dp (d-of begun)
+  marks_given = q.sub_frames-marks.ensures.marks ∙ ap₂ four_marks dp_lent (d_back found _)
+
+  words_given : q.sub_frames-marks.new.codewords ≡ found.frame-a.result.larc ++ four_words begun.args.e.dp (d-of begun)
+  words_given = q.sub_frames-marks.ensures.codewords.0 ∙ ap₂ ◌++◌ (larc_lent _) (ap₂ four_words dp_lent (d_back found _))
+
+  added_given : q.sub_frames-marks.new.dp ≡ four_added begun.args.e.dp (d-of begun)
+  added_given = q.sub_frames-marks.ensures.codewords.1 ∙ ap₂ four_added dp_lent (d_back found _)
+
+  -- the history and four sub-frames are 280 samples, of which the last 120 are kept
+  four_are : length (four_added begun.args.e.dp (d-of begun)) ≡ 280
+  four_are = four_length begun.args.e.dp (d-of begun) (history begun)
+
+  added_length : length q.sub_frames-marks.new.dp ≡ 280
+  added_length = ap length added_given ∙ four_are
+
+  added_room : (rest : List ℤ) → 280 ≤ length (q.sub_frames-marks.new.dp ++ rest)
+  added_room = front_room 280 added_given four_are
+
+  last_kept : (rest : List ℤ) → take 120 (drop 160 (q.sub_frames-marks.new.dp ++ rest)) ≡ dp₄ begun.args.e.dp (d-of begun)
+  last_kept rest =
+      let y = q.sub_frames-marks.new.dp in
+      rw (drop-append-le 160 y rest (omega (arith, added_length)))
+      (take_at (drop 160 y) rest 120 (rw length-drop (omega (arith, added_length)))
+      ∙ (ap (drop 160) added_given ∙ four_last begun.args.e.dp (d-of begun) (history begun)))
+
+pub returns : goal.returns
+unfolding coder
+returns c =
+    let n = c.before.before in
+    let q = four-done n.before.before.before.before in
+    let t = found q in
+    let s = begun q in
+    let m = c_of s in
+    let unused = drop 280 (kept q).remembered-dp.result in
+    let dp-last : n.last.result ≡ take 120 (drop 160 (q.sub_frames-marks.new.dp ++ unused)) = n.last.ensures in
+    let (next_is, (larc-is, (how-is, d-is))) = analysed_is t in
+    let (state, (how, (told, written))) = steps_are m (sop s) next_is larc-is how-is refl in (
+      rw (back (z1_after t), back (l_z2_after t), back (mp_after t))
+          (ap (with_history (coder_of t.frame-a.result.next)) (dp-last ∙ last_kept q unused) ∙ state),
+      (c.answered.ensures ∙ ap some how, (marks_given q ∙ told, words_given q ∙ written)),
+    )
+
+pub slice_bounds-sub_frames-end : goal.slice_bounds-sub_frames-end
+slice_bounds-sub_frames-end c = let h = d_room (analysed (ratios-placed c.before).before.before) in search (rules, h)
+
+pub slice_bounds-last-end : goal.slice_bounds-last-end
+slice_bounds-last-end c = let h = added_room (four-done c.before.before) in search (rules, h)
