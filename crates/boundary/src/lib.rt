@@ -86,11 +86,7 @@ pub fn rpeltp_decoder_home() -> Decoder
 }
 
 // 160 samples to 76 codewords.
-pub fn rpeltp_encode(
-    state: Encoder,
-    samples: &[i16],
-    codewords: &mut [i16],
-) -> EncodeAnswer
+pub fn rpeltp_encode(state: Encoder, samples: &[i16], codewords: &mut [i16]) -> EncodeAnswer
     ensures { Encodes state samples.now codewords.old result codewords.new }
 {
     encode_answer(state.encode(samples, codewords))
@@ -104,11 +100,7 @@ pub fn rpeltp_decode(state: Decoder, codewords: &[i16], samples: &mut [i16]) -> 
 }
 
 // 160 octets of A-law to 76 codewords.
-pub fn rpeltp_encode_alaw(
-    state: Encoder,
-    octets: &[u8],
-    codewords: &mut [i16],
-) -> EncodeAnswer
+pub fn rpeltp_encode_alaw(state: Encoder, octets: &[u8], codewords: &mut [i16]) -> EncodeAnswer
     ensures { Encodes state (alaw_samples octets.now)
         codewords.old result codewords.new }
 {
@@ -116,11 +108,7 @@ pub fn rpeltp_encode_alaw(
 }
 
 // 76 codewords to 160 octets of A-law.
-pub fn rpeltp_decode_alaw(
-    state: Decoder,
-    codewords: &[i16],
-    octets: &mut [u8],
-) -> Decoded
+pub fn rpeltp_decode_alaw(state: Decoder, codewords: &[i16], octets: &mut [u8]) -> Decoded
     ensures { DecodesAlaw state codewords.now octets.old result octets.new }
 {
     state.decode_alaw(codewords, octets)

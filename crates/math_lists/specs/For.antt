@@ -42,7 +42,8 @@ module _ {A : Type 0} where
   -- what holds of every table of n entries holds of every list of that length: with n a number, the list is taken apart
   pub by_entries : (P : List A → Type 0) (d : A) (n : ℕ) → ((f : ℕ → A) → P (tab f 0 n)) → (xs : List A) → length xs ≡ n → P xs
   by_entries P d n p xs l =
-      let e : tab (λ k. get_or xs k d) 0 n ≡ xs = tab_is (λ k. get_or xs k d) 0 n xs d l (λ k h. ap (λ (j : ℕ). get_or xs j d) (omega arith)) in
+      let e : tab (λ k. get_or xs k d) 0 n ≡ xs =
+      tab_is (λ k. get_or xs k d) 0 n xs d l (λ k h. ap (λ (j : ℕ). get_or xs j d) (omega arith)) in
       rw e at (p (λ k. get_or xs k d))
 
   -- the same of two lists

@@ -35,7 +35,8 @@ module _ {S A : Type 0} (g : S → A → S) where
   pub fold_end : (xs : List A) (i : ℕ) (s : S) → length xs ≤ i → foldl g s (drop i xs) ≡ s
   fold_end xs i s h = rw (drop_of_length-le xs h)
 
-  steps_drop : (xs : List A) (d : A) (n i : ℕ) (s : S) → i + n ≡ length xs → steps (λ k s. g s (get_or xs k d)) n i s ≡ foldl g s (drop i xs)
+  steps_drop : (xs : List A) (d : A) (n i : ℕ) (s : S) → i + n ≡ length xs
+      → steps (λ k s. g s (get_or xs k d)) n i s ≡ foldl g s (drop i xs)
   unfolding steps
   steps_drop xs d zero i s h = sym (fold_end xs i s (omega arith))
   steps_drop xs d (suc n) i s h =

@@ -102,7 +102,8 @@ module _ {c : List ℤ} {i k h n : ℕ} {out : List ℕ} (m : Packing c i k h n 
       let z : sum (drop i widths) ≡ 0 = rw (drop_of_length-le widths {i = i} (omega arith)) in
       let e : k ≡ 32 = omega (arith, pack_count) in
       let g : h ≡ 4 = omega (arith, pack_count) in
-      rw e at (moving_last nat_abs (λ n. n) spare_zeros eights widths c m 4 (omega arith) (omega arith) l (rw (e, g)) refl) ∙ packing_whole c
+      rw e at (moving_last nat_abs (λ n. n) spare_zeros eights widths c m 4 (omega arith) (omega arith) l (rw (e, g)) refl)
+      ∙ packing_whole c
 
 -- ---- unpack's turn: i bytes are read, k codewords written, and h bits wait in n
 

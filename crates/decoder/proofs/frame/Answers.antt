@@ -10,14 +10,14 @@ use lib.ListN.{length, drop, replicate, length-append, length-replicate}
 use mir.Syntax.{w16}
 use mir.Val.{SFits}
 use Rattle.math_integers.specs.Halves.{mem}
-use Rattle.math_integers.specs.Ranges.{back, res}
+use Rattle.math_integers.specs.Ranges.{back}
 use Rattle.frame_received.specs.Received.{ratio_words, frame_reconstructed}
 use Rattle.frame_received.specs.Frame.{samples_length, samples_after, history_after}
 use Rattle.decoder.specs.Promise.{memory}
 use Rattle.long_history.specs.Window.{lent_history, lent_all}
 use Rattle.decoder.specs.Whole.{whole}
 use Rattle.decoder.proofs.frame.Goals as goal
-use Rattle.decoder.proofs.frame.Goals.{After-decoded-nrp, After-frame-cells, After-ratios-larpp, After-remembered-drp, Start}
+use Rattle.decoder.proofs.frame.Goals.{After-decoded-nrp, After-frame-cells, After-remembered-drp, Start}
 
 -- ---- points of the code
 
@@ -28,18 +28,6 @@ placed c = c.before.before.before.before
 -- the start, from there
 abbrev start : After-decoded-nrp → Start
 start c = (placed c).before.before.before.before
-
--- the end of the sub-frames, from where the ratios are
-abbrev filled : After-ratios-larpp → After-decoded-nrp
-filled c = c.before.before.before.before.before
-
--- the ratios, from where the parts for the synthesis are taken
-abbrev decoded-ratios : tie.After-drp3 → After-ratios-larpp
-decoded-ratios c = c.before.before
-
--- the end of the synthesis, from where the part for the history is taken
-abbrev synthesised : tie.After-drp4 → After-frame-cells
-synthesised c = c.before.before.before
 
 -- ---- the list
 
@@ -89,10 +77,10 @@ all-length c =
     rw (all c, length-append) (omega (arith, h, n))
 
 pub slice_bounds-frame-end : goal.slice_bounds-frame-end
-slice_bounds-frame-end c = le_of_eq (sym (all-length (filled (decoded-ratios c))))
+slice_bounds-frame-end c = le_of_eq (sym (all-length (goal.at.slice_bounds-frame-end c).After-decoded-nrp))
 
 pub slice_bounds-last-end : goal.slice_bounds-last-end
-slice_bounds-last-end c = le_of_eq (sym (all-length (filled (decoded-ratios (synthesised c).before.before.before))))
+slice_bounds-last-end c = le_of_eq (sym (all-length (goal.at.slice_bounds-last-end c).After-decoded-nrp))
 
 -- msr is a word, before and after
 msr-before : (s : Start) → mem w16 s.args.m.msr ≡ s.args.m.msr
@@ -104,19 +92,19 @@ msr-after c = let f : SFits w16 c.frame-cells.result.msr = search rules in back 
 pub returns : goal.returns
 unfolding memory ratio_words
 returns c =
-    let part = c.before.before.before in
-    let f = part.before.before.before in
-    let parts = (goal.at.returns c).After-ratios-larpp in
-    let a = parts.before.before.before in
-    let d = a.before.before.before.before in
-    let k = d.before.before.before in
-    let s = k.before.before.before in
+    let f = (goal.at.returns c).After-frame-cells in
+    let d = (goal.at.returns c).After-decoded-nrp in
+    let s = start d in
     let drp = s.args.m.drp in
     let nrp = s.args.m.nrp in
     let cw = s.args.codewords.now in
     let l = history s in
     let kept = rw (all d, history_after drp nrp cw l s.requires.1.1 s.requires.0) at c.last.ensures in
-    let larpp = rw a.larc_valid.ensures at a.ratios.ensures in
-    let spoken = rw (all d, samples_after drp nrp cw l s.requires.1.1 s.requires.0, msr-before s) at f.frame.ensures in
-    let nrp-is = res d.decoded ∙ lag-after d in
-    let both = whole (memory s.args.m) cw _ _ _ _ _ _ kept nrp-is larpp spoken.0 (msr-after f ∙ spoken.1.0) spoken.1.1 in record { state = both.0; samples = both.1 }
+    let larpp = rw c.larc_valid.ensures at c.ratios-larpp.ensures in
+    let words = samples_after drp nrp cw l s.requires.1.1 s.requires.0 in
+    let v = rw (all d, words, msr-before s) at f.frame-cells.ensures.v in
+    let msr = rw (all d, words, msr-before s) at f.frame-cells.ensures.msr in
+    let samples = rw (all d, words, msr-before s) at f.frame-cells.ensures.samples in
+    let nrp-is = back {w = w16} (record { sfits = d.decoded-nrp.type_inv }) ∙ lag-after d in
+    let both = whole (memory s.args.m) cw _ _ _ _ _ _ kept nrp-is larpp v (msr-after f ∙ msr) samples in
+    record { state = both.0; samples = both.1 }

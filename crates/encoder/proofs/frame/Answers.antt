@@ -23,7 +23,7 @@ use Rattle.encoder.specs.Promise.{coder, marks}
 use Rattle.encoder.specs.Subframes.{dp₄, four_words, four_marks, four_added, four_length, four_last}
 use Rattle.encoder.specs.Whole.{unseen, with_history, steps_are}
 use Rattle.encoder.proofs.frame.Goals as goal
-use Rattle.encoder.proofs.frame.Goals.{After-d-1, After-dp-1, After-frame-a, After-larc-1, After-new-1, After-ratios, After-remembered-dp, After-room-d, After-sub_frames-marks, Start}
+use Rattle.encoder.proofs.frame.Goals.{After-frame-a, After-sub_frames-marks, Start}
 
 -- the state and the samples that it starts from
 module _ (s : Start) where
@@ -51,51 +51,35 @@ module _ (s : Start) where
   d_length : length d-of ≡ 160
   d_length = analysis_d_length (unseen c_of) sop ∙ omega (arith, s.requires.0)
 
--- ---- points of the code
-
--- where the buffer for d is ready, from where its part is taken
-abbrev ready : After-d-1 → After-room-d
-ready c = c.before.before
-
--- the start, from there
-abbrev before-room : After-room-d → Start
-before-room c = c.before.before.before.before
-
--- the end of the analysis, from where its parts are taken out
-abbrev analysed : After-larc-1 → After-frame-a
-analysed c = c.before.before.before
-
--- the codes of the ratios in place, from where the history is in place
-abbrev ratios-placed : After-remembered-dp → After-ratios
-ratios-placed c = c.before.before
-
--- the history in place, from where the sub-frames' parts are taken
-abbrev history-placed : After-dp-1 → After-remembered-dp
-history-placed c = c.before.before.before
-
--- the end of the four sub-frames, from where the new state is put together
-abbrev four-done : After-new-1 → After-sub_frames-marks
-four-done c = c.before.before.before
-
 -- ---- the steps
 
 pub frame-a-requires : goal.frame-a-requires
 unfolding coder sound_coder
-frame-a-requires c κs =
-    let r = ready c in
-    let s = before-room r in
-    (s.requires.0, (ap length (ap (take 160) r.room-d.ensures), rw (back (z1_fits s), back (l_z2_fits s)) s.requires.1.1))
+frame-a-requires c =
+    let s = (goal.at.frame-a-requires c).Start in (
+      c.requires.0,
+      (ap length (ap (take 160) c.room-d.ensures), rw (back {w = w16} (z1_fits s), back {w = w32} (l_z2_fits s)) c.requires.1.1),
+    )
 
 -- 4.2.0 to 4.2.10
 module _ (t : After-frame-a) where
   abbrev start : Start
-  start = before-room (ready t.before)
+  start = (goal.at.After-frame-a t).Start
 
   -- what is kept, the codes, the ending and d are those of the analysis
   analysed_is : let a = analysis (unseen (c_of start)) (sop start) in let r = t.frame-a.result in
       (coder_of r.next ≡ a.next) × ((r.larc ≡ a.LARc) × ((ended r.ending ≡ a.ending) × (t.frame-a.new.signal ≡ a.d)))
   unfolding coder
-  analysed_is = rw (back (z1_fits start), back (l_z2_fits start), back (mp_fits start)) at t.frame-a.ensures
+  analysed_is =
+      let e = t.frame-a.ensures in
+      let z1 = back {w = w16} (z1_fits start) in
+      let l_z2 = back {w = w32} (l_z2_fits start) in
+      let mp = back {w = w16} (mp_fits start) in
+      let next-is = rw (z1, l_z2, mp) at e.next in
+      let larc-is = rw (z1, l_z2, mp) at e.larc in
+      let ending-is = rw (z1, l_z2, mp) at e.ending in
+      let d-is = rw (z1, l_z2, mp) at e.samples in
+      (next-is, (larc-is, (ending-is, d-is)))
 
   d-is : t.frame-a.new.signal ≡ d-of start
   d-is = analysed_is.1.1.1
@@ -118,29 +102,23 @@ module _ (t : After-frame-a) where
 
 -- 4.2.11 to 4.2.18
 module _ (q : After-sub_frames-marks) where
-  abbrev kept : After-remembered-dp
-  kept = history-placed q.before.before
-
-  abbrev coded : After-ratios
-  coded = ratios-placed kept
-
   abbrev found : After-frame-a
-  found = analysed coded.before.before
+  found = (goal.at.After-sub_frames-marks q).After-frame-a
 
   abbrev begun : Start
   begun = start found
 
   -- the history as the sub-frames read it
-  dp_lent : take 120 (take 280 kept.remembered-dp.result) ≡ begun.args.e.dp
+  dp_lent : take 120 (take 280 q.remembered-dp.result) ≡ begun.args.e.dp
   dp_lent =
-      ap (λ (y : List ℤ). take 120 (take 280 y)) kept.remembered-dp.ensures
+      ap (λ (y : List ℤ). take 120 (take 280 y)) q.remembered-dp.ensures
       ∙ lent_history begun.args.e.dp (replicate 160 (pos 0)) (history begun) (length-replicate 160 (pos 0))
 
   -- the codes of the ratios in front of the codewords
-  larc_put : coded.ratios.new.c ≡ found.frame-a.result.larc
-  larc_put = coded.ratios.ensures
+  larc_put : q.ratios.new.c ≡ q.frame-a.result.larc
+  larc_put = q.ratios.ensures
 
-  larc_lent : (rest : List ℤ) → take 8 (coded.ratios.new.c ++ rest) ≡ found.frame-a.result.larc
+  larc_lent : (rest : List ℤ) → take 8 (q.ratios.new.c ++ rest) ≡ q.frame-a.result.larc
   larc_lent rest =
       let l = ap length (analysed_is found).1.0 ∙ analysis_codes_length (unseen (c_of begun)) (sop begun) in
       front_back 8 larc_put l rest
@@ -148,11 +126,11 @@ module _ (q : After-sub_frames-marks) where
   marks_given : marks q.sub_frames-marks.result ≡ four_marks begun.args.e.dp (d-of begun)
   marks_given = q.sub_frames-marks.ensures.marks ∙ ap₂ four_marks dp_lent (d_back found _)
 
-  words_given : q.sub_frames-marks.new.codewords ≡ found.frame-a.result.larc ++ four_words begun.args.e.dp (d-of begun)
-  words_given = q.sub_frames-marks.ensures.codewords.0 ∙ ap₂ ◌++◌ (larc_lent _) (ap₂ four_words dp_lent (d_back found _))
+  words_given : q.sub_frames-marks.new.codewords ≡ q.frame-a.result.larc ++ four_words begun.args.e.dp (d-of begun)
+  words_given = q.sub_frames-marks.ensures.codewords ∙ ap₂ ◌++◌ (larc_lent _) (ap₂ four_words dp_lent (d_back found _))
 
   added_given : q.sub_frames-marks.new.dp ≡ four_added begun.args.e.dp (d-of begun)
-  added_given = q.sub_frames-marks.ensures.codewords.1 ∙ ap₂ four_added dp_lent (d_back found _)
+  added_given = q.sub_frames-marks.ensures.history ∙ ap₂ four_added dp_lent (d_back found _)
 
   -- the history and four sub-frames are 280 samples, of which the last 120 are kept
   four_are : length (four_added begun.args.e.dp (d-of begun)) ≡ 280
@@ -174,22 +152,24 @@ module _ (q : After-sub_frames-marks) where
 pub returns : goal.returns
 unfolding coder
 returns c =
-    let n = c.before.before in
-    let q = four-done n.before.before.before.before in
+    let q = (goal.at.returns c).After-sub_frames-marks in
     let t = found q in
     let s = begun q in
     let m = c_of s in
-    let unused = drop 280 (kept q).remembered-dp.result in
-    let dp-last : n.last.result ≡ take 120 (drop 160 (q.sub_frames-marks.new.dp ++ unused)) = n.last.ensures in
+    let unused = drop 280 q.remembered-dp.result in
+    let dp-last : c.last.result ≡ take 120 (drop 160 (q.sub_frames-marks.new.dp ++ unused)) = c.last.ensures in
     let (next_is, (larc-is, (how-is, d-is))) = analysed_is t in
-    let (state, (how, (told, written))) = steps_are m (sop s) next_is larc-is how-is refl in (
-      rw (back (z1_after t), back (l_z2_after t), back (mp_after t))
-          (ap (with_history (coder_of t.frame-a.result.next)) (dp-last ∙ last_kept q unused) ∙ state),
-      (c.answered.ensures ∙ ap some how, (marks_given q ∙ told, words_given q ∙ written)),
-    )
+    let (state, (how, (told, written))) = steps_are m (sop s) next_is larc-is how-is refl in record {
+      state =
+          rw (back {w = w16} (z1_after t), back {w = w32} (l_z2_after t), back {w = w16} (mp_after t))
+          (ap (with_history (coder_of t.frame-a.result.next)) (dp-last ∙ last_kept q unused) ∙ state);
+      ending = c.answered.ensures ∙ ap some how;
+      marks = marks_given q ∙ told;
+      codewords = words_given q ∙ written;
+    }
 
 pub slice_bounds-sub_frames-end : goal.slice_bounds-sub_frames-end
-slice_bounds-sub_frames-end c = let h = d_room (analysed (ratios-placed c.before).before.before) in search (rules, h)
+slice_bounds-sub_frames-end c = let h = d_room (goal.at.slice_bounds-sub_frames-end c).After-frame-a in search (rules, h)
 
 pub slice_bounds-last-end : goal.slice_bounds-last-end
-slice_bounds-last-end c = let h = added_room (four-done c.before.before) in search (rules, h)
+slice_bounds-last-end c = let h = added_room (goal.at.slice_bounds-last-end c).After-sub_frames-marks in search (rules, h)

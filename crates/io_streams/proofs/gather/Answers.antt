@@ -31,7 +31,8 @@ returns-then-more-eq0-clause-taken g c =
     (Consumes-trans _ _ _ _ _ held.5 c.read-more.ensures.taken)
 
 -- the bytes before index `done` are not read into
-stands : (there done k : ℕ) (old xs ys : List ℕ) → there ≤ done → done ≤ length xs → take there xs ≡ take there old → take there (put_mid done k xs ys) ≡ take there old
+stands : (there done k : ℕ) (old xs ys : List ℕ) → there ≤ done → done ≤ length xs → take there xs ≡ take there old
+    → take there (put_mid done k xs ys) ≡ take there old
 stands there done k old xs ys from within held = take-put_mid_below done k xs ys there from within ∙ held
 
 pub loop-done-preserved : goal.loop-done-preserved

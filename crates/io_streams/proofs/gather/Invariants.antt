@@ -9,7 +9,8 @@ use Rattle.io_streams.proofs.gather.Given as goal
 
 abbrev pub invariant-loop-done : goal.invariant-loop-done
 invariant-loop-done g l =
-    (l.there ≤ l.done) × (l.done ≤ length l.room) × (length l.room ≡ length l.initial.room) × (take l.there l.room ≡ take l.there l.initial.room)
+    (l.there ≤ l.done) × (l.done ≤ length l.room) × (length l.room ≡ length l.initial.room)
+    × (take l.there l.room ≡ take l.there l.initial.room)
     × (l.least ≤ l.there → (l.done ≡ l.there) × (l.room ≡ l.initial.room))
     × Consumes (g.R.Read.remaining l.initial.input) (g.R.Read.remaining l.input) (slice_range l.room l.there l.done)
 

@@ -8,7 +8,9 @@ use Rattle.standard.specs.Listing as standard
 use Rattle.list_text.proofs.digits.Given as goal
 
 abbrev pub invariant-loop-i : goal.invariant-loop-i
-invariant-loop-i l = (l.i ≤ length l.out) × (length l.out ≡ length l.initial.out) × (standard.digits (length l.initial.out) l.n ≡ standard.digits l.i l.rest ++ drop l.i l.out)
+invariant-loop-i l =
+    (l.i ≤ length l.out) × (length l.out ≡ length l.initial.out)
+    × (standard.digits (length l.initial.out) l.n ≡ standard.digits l.i l.rest ++ drop l.i l.out)
 
 abbrev pub decreases-loop-i : goal.decreases-loop-i
 decreases-loop-i l = l.i

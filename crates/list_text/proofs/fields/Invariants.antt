@@ -9,4 +9,5 @@ use Rattle.list_text.specs.Fields.{tabbed}
 use Rattle.list_text.proofs.fields.Given as goal
 
 abbrev pub invariant-loop-i : goal.invariant-loop-i
-invariant-loop-i l = (l.i ≤ length l.words) × (l.end ≤ l.at + 8 * l.i) × Puts l.at (tabbed (map standard.word (take l.i l.words))) l.initial.out l.end l.out
+invariant-loop-i l =
+    (l.i ≤ length l.words) × (l.end ≤ l.at + 8 * l.i) × Puts l.at (tabbed (map standard.word (take l.i l.words))) l.initial.out l.end l.out

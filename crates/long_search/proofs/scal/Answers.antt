@@ -44,7 +44,8 @@ pub norm-temp-requires : goal.norm-temp-requires
 norm-temp-requires c = rw (top-is c.before) (dmax_above _ (other c))
 
 -- temp in both cases
-temp-is : (c : Joined-dmax-eq0) → let x = dmax c.before.before in to_z w16 c.if-dmax-eq0.temp-bits ≡ cond (is_zero x) (pos 0) (norm (up w32 x 16))
+temp-is : (c : Joined-dmax-eq0) → let x = dmax c.before.before in
+    to_z w16 c.if-dmax-eq0.temp-bits ≡ cond (is_zero x) (pos 0) (norm (up w32 x 16))
 temp-is c =
     elim c.if-dmax-eq0.branch [
       | then-dmax-eq0 w ↦ rw (w.temp-is, zero (record { before = c.before; if-dmax-eq0 = w.if-dmax-eq0 }))

@@ -10,7 +10,8 @@ use Rattle.long_search.specs.Search.{scaled}
 use Rattle.long_search.proofs.weighed.Given as goal
 
 abbrev pub invariant-loop-k : goal.invariant-loop-k
-invariant-loop-k l = (l.k ≤ 40) × (length l.wt ≡ 40) × (l.wt ≡ filled l.k (scaled l.d) l.initial.wt) × ((j : ℕ) → j < l.k → SFits w16 (l.d at j))
+invariant-loop-k l =
+    (l.k ≤ 40) × (length l.wt ≡ 40) × (l.wt ≡ filled l.k (scaled l.d) l.initial.wt) × ((j : ℕ) → j < l.k → SFits w16 (l.d at j))
 
 abbrev pub decreases-loop-k : goal.decreases-loop-k
 decreases-loop-k l = 40 - l.k

@@ -9,4 +9,6 @@ use Rattle.standard.specs.Arithmetic.{shl}
 use Rattle.lpc_autocorrelation.proofs.rescaled.Given as goal
 
 abbrev pub invariant-loop-k : goal.invariant-loop-k
-invariant-loop-k l = (l.k ≤ length l.initial.s) × (length l.s ≡ length l.initial.s) × (l.s ≡ filled l.k (map (λ x. shl w16 x l.scale) l.initial.s) l.initial.s)
+invariant-loop-k l =
+    (l.k ≤ length l.initial.s) × (length l.s ≡ length l.initial.s)
+    × (l.s ≡ filled l.k (map (λ x. shl w16 x l.scale) l.initial.s) l.initial.s)

@@ -45,7 +45,8 @@ loop-m-preserved c =
     let v = c.mult_r-in-loop-m-2 in
     let y : mem w16 v.result ≡ mult_r above rn = res v ∙ rw (back f) at v.ensures in
     let p : mem w16 u.add-in-loop-m.result ≡ add above (mult_r own rn) = res u.add-in-loop-m ∙ rw (back f, x) at u.add-in-loop-m.ensures in
-    let k : mem w16 c.add-in-loop-m-2.result ≡ add own (mult_r above rn) = res c.add-in-loop-m-2 ∙ rw (back g, y) at c.add-in-loop-m-2.ensures in
+    let k : mem w16 c.add-in-loop-m-2.result ≡ add own (mult_r above rn) =
+    res c.add-in-loop-m-2 ∙ rw (back g, y) at c.add-in-loop-m-2.ensures in
     let next = steps_next (PK_turn rn) (9 - s.args.n) m (b.loop-m.p, b.loop-m.k) (omega arith) in
     (search rules, rw (p, k, ← turned rn m b.loop-m.p b.loop-m.k) (sym next ∙ b.loop-m.invariant.1))
 

@@ -6,4 +6,6 @@ use Rattle.law_loops.specs.Recursion.{PK_turn}
 use Rattle.lpc_reflection.proofs.step.Given as goal
 
 abbrev pub invariant-loop-m : goal.invariant-loop-m
-invariant-loop-m l = ((1 ≤ l.m) × (l.m ≤ l.m-end)) × (steps (PK_turn l.rn) (l.m-end - l.m) l.m (l.p, l.k) ≡ steps (PK_turn l.rn) (l.m-end - 1) 1 (l.initial.p, l.initial.k))
+invariant-loop-m l =
+    ((1 ≤ l.m) × (l.m ≤ l.m-end))
+    × (steps (PK_turn l.rn) (l.m-end - l.m) l.m (l.p, l.k) ≡ steps (PK_turn l.rn) (l.m-end - 1) 1 (l.initial.p, l.initial.k))

@@ -7,4 +7,5 @@ use Rattle.standard.specs.Alaw.{alaw_octets}
 use Rattle.pcm_alaw.proofs.octets.Given as goal
 
 abbrev pub invariant-loop-i : goal.invariant-loop-i
-invariant-loop-i l = (l.i ≤ length l.samples) × (length l.octets ≡ length l.samples) × (l.octets ≡ filled l.i (alaw_octets l.samples) l.initial.octets)
+invariant-loop-i l =
+    (l.i ≤ length l.samples) × (length l.octets ≡ length l.samples) × (l.octets ≡ filled l.i (alaw_octets l.samples) l.initial.octets)

@@ -7,4 +7,5 @@ use Rattle.standard.specs.Alaw.{alaw_samples}
 use Rattle.pcm_alaw.proofs.samples.Given as goal
 
 abbrev pub invariant-loop-i : goal.invariant-loop-i
-invariant-loop-i l = (l.i ≤ length l.octets) × (length l.samples ≡ length l.octets) × (l.samples ≡ filled l.i (alaw_samples l.octets) l.initial.samples)
+invariant-loop-i l =
+    (l.i ≤ length l.octets) × (length l.samples ≡ length l.octets) × (l.samples ≡ filled l.i (alaw_samples l.octets) l.initial.samples)

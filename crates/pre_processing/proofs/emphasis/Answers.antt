@@ -32,4 +32,5 @@ pub returns : goal.returns
 returns c =
     let s = c.before.before in
     let l = c.loop-k in
-    let both = rw (back s.ranges.mp) at (along_end emphasis _ _ l.invariant.0 (omega arith) (omega arith)) in record { mp = both.0; samples = both.1 }
+    let both = rw (back s.ranges.mp) at (along_end emphasis _ _ l.invariant.0 (omega arith) (omega arith)) in
+    record { mp = both.0; samples = both.1 }

@@ -120,4 +120,5 @@ returns c =
     let l = c.loop-k in
     let f : SFits w16 m.z1 = search rules in
     let g : SFits w32 m.l_z2 = search rules in
-    let both = rw (back f, back g) at (along_end offset _ _ l.invariant.0 (rw downscaled_length (omega arith)) (omega arith)) in record { state = both.0; samples = both.1 }
+    let both = rw (back f, back g) at (along_end offset _ _ l.invariant.0 (rw downscaled_length (omega arith)) (omega arith)) in
+    record { state = both.0; samples = both.1 }

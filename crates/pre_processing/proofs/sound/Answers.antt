@@ -52,7 +52,8 @@ pub overflow_mul-centre : goal.overflow_mul-centre
 overflow_mul-centre c = let s = c.before.before.before in rw (z1_is s) (centre_fits s)
 
 pub overflow_sub-centre : goal.overflow_sub-centre
-overflow_sub-centre c = let s = c.before.before.before.before.before in rw (z1_is s, back (centre_fits s)) (least_fits s 536740337 (omega arith))
+overflow_sub-centre c =
+    let s = c.before.before.before.before.before in rw (z1_is s, back (centre_fits s)) (least_fits s 536740337 (omega arith))
 
 pub overflow_add-centre : goal.overflow_add-centre
 overflow_add-centre c = let s = c.before.before.before.before.before in rw (z1_is s, back (centre_fits s)) (most_fits s _ (omega arith))
@@ -75,7 +76,8 @@ l-z2-test c =
     let s = c.before.before.before.before.before.before in
     let middle = mem w32 (mem w32 (mem w16 (z1 s)) *ℤ pos 32768) in
     let said : c.within-then-within.result
-    ≡ within (mem w32 (middle -ℤ pos 536740337)) (mem w32 (middle +ℤ pos 536871409)) (mem w32 s.args.m.l_z2) = c.within-then-within.ensures in
+    ≡ within (mem w32 (middle -ℤ pos 536740337)) (mem w32 (middle +ℤ pos 536871409)) (mem w32 s.args.m.l_z2) =
+    c.within-then-within.ensures in
     let least = back (least_fits s 536740337 (omega arith)) in
     let most = back (most_fits s 536871409 (omega arith)) in
     rw (z1_is s, back (centre_fits s), least, most, back (l_z2_fits s)) at said
@@ -86,7 +88,8 @@ pub returns-then-within : goal.returns-then-within
 unfolding kept
 returns-then-within c =
     let t = c.before.before in
-    let first : within (neg 16384) (pos 16380) (z1 (start (goal.at.returns-then-within c).After-within)) ≡ true = sym (z1-test (goal.at.returns-then-within c).After-within) ∙ t.if-within.true in
+    let a = (goal.at.returns-then-within c).After-within in
+    let first : within (neg 16384) (pos 16380) (z1 (start a)) ≡ true = sym (z1-test a) ∙ t.if-within.true in
     rw first (l-z2-test c)
 
 pub returns-else-within : goal.returns-else-within

@@ -110,7 +110,8 @@ pub exp_and_mant-a-requires : goal.exp_and_mant-a-requires
 exp_and_mant-a-requires c = rw (back c.ranges.xmaxc) c.requires
 
 pub overflow_sub-temp2 : goal.overflow_sub-temp2
-overflow_sub-temp2 c = let k = call (goal.at.overflow_sub-temp2 c).After-mantissa_fac-temp1 in gap_fits k.args.xmaxc _ k.requires (exp-is k) _ tt
+overflow_sub-temp2 c =
+    let k = call (goal.at.overflow_sub-temp2 c).After-mantissa_fac-temp1 in gap_fits k.args.xmaxc _ k.requires (exp-is k) _ tt
 
 pub loop-i-init : goal.loop-i-init
 loop-i-init c = (search rules, refl)

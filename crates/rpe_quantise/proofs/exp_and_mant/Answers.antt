@@ -124,7 +124,8 @@ returns c =
     let j = c.before.before in
     let (exp, mant) = amplitude_is j.args.xmaxc (e j) (k j) refl refl in record {
       exp = back (overflow_sub-result c) ∙ rw (exp_word j, res c.doublings-n, count c) (sym exp);
-      mant = back (overflow_sub-result-2 c) ∙ rw (up_is j c.doublings-n.result (count c)) (less _ _ (doubled_above (m j)) ∙ ap pos (sym mant));
+      mant =
+          back (overflow_sub-result-2 c) ∙ rw (up_is j c.doublings-n.result (count c)) (less _ _ (doubled_above (m j)) ∙ ap pos (sym mant));
     }
 
 pub overflow_sub-exp : goal.overflow_sub-exp

@@ -10,7 +10,8 @@ use Rattle.rpe_weighting.specs.Energy.{squared}
 use Rattle.rpe_weighting.proofs.squares.Given as goal
 
 abbrev pub invariant-loop-k : goal.invariant-loop-k
-invariant-loop-k l = (l.k ≤ 40) × (length l.q ≡ 40) × (l.q ≡ filled l.k (squared l.x) l.initial.q) × ((j : ℕ) → j < l.k → SFits w16 (l.x at j))
+invariant-loop-k l =
+    (l.k ≤ 40) × (length l.q ≡ 40) × (l.q ≡ filled l.k (squared l.x) l.initial.q) × ((j : ℕ) → j < l.k → SFits w16 (l.x at j))
 
 abbrev pub decreases-loop-k : goal.decreases-loop-k
 decreases-loop-k l = 40 - l.k

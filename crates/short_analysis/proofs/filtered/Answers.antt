@@ -149,7 +149,8 @@ module _ (c : After-stage-in-loop-j) where
       let t = turn_two in
       let u : SFits w16 (cells (known t) at k_of t) = sfits_of c.stage-arg-in-loop-j-2-1.given in
       done_next _ _ _ _ _ _ (done_one one_of) (eight (known t)).0 (k_below t) c.own-in-loop-j.ensures (back u)
-      c.stage-in-loop-j.ensures.p c.stage-in-loop-j.ensures.di c.stage-in-loop-j.ensures.q c.stage-in-loop-j.ensures.u (back {w = w16} (record { sfits = c.stage-in-loop-j.type_inv }))
+      c.stage-in-loop-j.ensures.p c.stage-in-loop-j.ensures.di c.stage-in-loop-j.ensures.q c.stage-in-loop-j.ensures.u
+      (back {w = w16} (record { sfits = c.stage-in-loop-j.type_inv }))
 
 pub stage-requires-in-loop-j : goal.stage-requires-in-loop-j
 stage-requires-in-loop-j c =

@@ -86,7 +86,9 @@ returns c =
     let lp : length prev ≡ 160 = c.requires.0.1 in
     let ld : length di ≡ 160 = c.requires.1.0 in
     let ls : length c.args.sav.now ≡ 160 = c.requires.1.1.0 in record {
-      di = fill_end (further rp prev di) di c.loop-k.k c.loop-k.invariant.3 (omega (arith, further_length 160 rp prev di lr lp ld)) (omega arith);
+      di =
+          fill_end (further rp prev di) di c.loop-k.k c.loop-k.invariant.3
+          (omega (arith, further_length 160 rp prev di lr lp ld)) (omega arith);
       sav = fill_end (saved rp prev di) c.args.sav.now c.loop-k.k c.loop-k.invariant.4
           (omega (arith, further_length 160 rp di prev lr ld lp)) (omega arith);
     }

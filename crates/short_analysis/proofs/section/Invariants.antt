@@ -8,7 +8,8 @@ use Rattle.short_analysis.proofs.section.Given as goal
 
 abbrev pub invariant-loop-k : goal.invariant-loop-k
 invariant-loop-k l = (l.k ≤ 160) × (length l.di ≡ 160) × (length l.sav ≡ 160)
-    × (l.di ≡ filled l.k (further l.rp l.prev l.initial.di) l.initial.di) × (l.sav ≡ filled l.k (saved l.rp l.prev l.initial.di) l.initial.sav)
+    × (l.di ≡ filled l.k (further l.rp l.prev l.initial.di) l.initial.di)
+    × (l.sav ≡ filled l.k (saved l.rp l.prev l.initial.di) l.initial.sav)
 
 abbrev pub decreases-loop-k : goal.decreases-loop-k
 decreases-loop-k l = 160 - l.k

@@ -27,5 +27,13 @@ returns c =
     let f = factor_is r c.requires.0 in
     let g = word_is (low v) c.requires.2 in
     let h : SFits w32 (r *ℤ low v +ℤ pos 16384) = rounded_fits f g 16384 tt in
-    rw (back (overflow_add-result c), back (overflow_mul-result c), back c.ranges.rrp, back c.ranges.v, back c.ranges.c, c.requires.1, unbiased r v)
+    rw (
+      back (overflow_add-result c),
+      back (overflow_mul-result c),
+      back c.ranges.rrp,
+      back c.ranges.v,
+      back c.ranges.c,
+      c.requires.1,
+      unbiased r v,
+    )
     (back (shr_fits 32768 h) ∙ sym (mult_r_plain r (low v) f g (omega (arith, range_is 32767 32767 r c.requires.0, know g))))

@@ -7,7 +7,8 @@ use Rattle.short_synthesis.proofs.limited.Goals as goal
 -- ---- what each call asks: what a local gives back of a coefficient or a cell passes the same test
 
 pub through-s7-requires : goal.through-s7-requires
-through-s7-requires c = (local_factor c.args.r.v7 c.requires.0.v7, local_word c.args.v.v7 c.requires.1.v7, rw (back c.ranges.wt) c.requires.2)
+through-s7-requires c =
+    (local_factor c.args.r.v7 c.requires.0.v7, local_word c.args.v.v7 c.requires.1.v7, rw (back c.ranges.wt) c.requires.2)
 
 pub through-s6-requires : goal.through-s6-requires
 through-s6-requires c = (local_factor c.args.r.v6 c.requires.0.v6, local_word c.args.v.v6 c.requires.1.v6, passed_word c.through-s7.ensures)

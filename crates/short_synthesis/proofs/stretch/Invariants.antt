@@ -14,8 +14,11 @@ use Rattle.short_synthesis.specs.Biased.{base}
 use Rattle.short_synthesis.proofs.stretch.Given as goal
 
 abbrev pub invariant-loop-k : goal.invariant-loop-k
-invariant-loop-k l = Along sounded (cells (base l.initial.v), l.initial.msr) (zip (replicate (length l.wt) (cells l.rp)) l.wt) (cells (base l.v), l.msr) l.k l.srop
+invariant-loop-k l =
+    Along sounded (cells (base l.initial.v), l.initial.msr) (zip (replicate (length l.wt) (cells l.rp)) l.wt)
+    (cells (base l.v), l.msr) l.k l.srop
     × Each word (base l.v) × (word l.msr ≡ true) × (l.k ≤ length l.wt) × (length l.srop ≡ length l.wt)
 
 abbrev pub invariant-loop-k-2 : goal.invariant-loop-k-2
-invariant-loop-k-2 l = (l.k ≤ length l.initial.srop) × (length l.srop ≡ length l.initial.srop) × (l.srop ≡ filled l.k (map srop l.initial.srop) l.initial.srop)
+invariant-loop-k-2 l =
+    (l.k ≤ length l.initial.srop) × (length l.srop ≡ length l.initial.srop) × (l.srop ≡ filled l.k (map srop l.initial.srop) l.initial.srop)

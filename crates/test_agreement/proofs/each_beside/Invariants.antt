@@ -8,7 +8,8 @@ use Rattle.test_agreement.specs.Stray.{stray}
 use Rattle.test_agreement.proofs.each_beside.Given as goal
 
 abbrev pub invariant-loop-i : goal.invariant-loop-i
-invariant-loop-i l = ((l.i ≤ 76) × (length l.codewords ≡ 76)) × (l.codewords ≡ filled l.i (stray l.k l.initial.codewords) l.initial.codewords)
+invariant-loop-i l =
+    ((l.i ≤ 76) × (length l.codewords ≡ 76)) × (l.codewords ≡ filled l.i (stray l.k l.initial.codewords) l.initial.codewords)
 
 abbrev pub decreases-loop-i : goal.decreases-loop-i
 decreases-loop-i l = 76 - l.i

@@ -32,7 +32,8 @@ returns-then-p-gt1073741823 c =
 
 pub returns-else-p-gt1073741823 : goal.returns-else-p-gt1073741823
 unfolding L_mult
-returns-else-p-gt1073741823 c = let s = c.before in back (overflow_add-result c) ∙ rw (product s) (sym (clip_plain (rw (product s) at (overflow_add-result c))))
+returns-else-p-gt1073741823 c =
+    let s = c.before in back (overflow_add-result c) ∙ rw (product s) (sym (clip_plain (rw (product s) at (overflow_add-result c))))
 
 pub overflow_cast-p : goal.overflow_cast-p
 overflow_cast-p c = search zfits

@@ -14,7 +14,8 @@ use Rattle.test_longs.proofs.low_word.Goals.{Start}
 there_and_back : (c : Start) → mem w32 (to_z w32 ((of_z w32 c.args.a * 65536) % 4294967296) >> 16) ≡ keep w16 c.args.a
 there_and_back c =
     let a = c.args.a in
-    ap (λ (x : ℤ). mem w32 (x >> 16)) (up_bits w32 a 16 c.ranges.a) ∙ (ap (mem w32) (low_word a) ∙ back {w = w32} (wide (keep_fits w16 a) tt))
+    ap (λ (x : ℤ). mem w32 (x >> 16)) (up_bits w32 a 16 c.ranges.a)
+    ∙ (ap (mem w32) (low_word a) ∙ back {w = w32} (wide (keep_fits w16 a) tt))
 
 pub returns : goal.returns
 returns c = ap (mem w16) (there_and_back c) ∙ back (keep_fits w16 c.args.a)

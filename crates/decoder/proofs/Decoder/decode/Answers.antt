@@ -31,7 +31,8 @@ pub returns-then-not-sound : goal.returns-then-not-sound
 returns-then-not-sound c =
     let t = c in
     let unsound = sym t.sound.ensures ∙ not-true _ c.if-not-sound.true-raw in
-    refuses _ _ _ 2 _ ((decode_exactly _ _ _).third t.if-samples-ne160.false t.if-codewords-ne76.false unsound) c.refuse-then-not-sound.ensures
+    refuses _ _ _ 2 _ ((decode_exactly _ _ _).third t.if-samples-ne160.false t.if-codewords-ne76.false unsound)
+    c.refuse-then-not-sound.ensures
 
 -- past the three tests
 passed : (c : Else-not-sound) → sound_decoder (memory c.args.self) ≡ true

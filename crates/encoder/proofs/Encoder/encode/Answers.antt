@@ -30,7 +30,8 @@ pub returns-then-not-sound : goal.returns-then-not-sound
 returns-then-not-sound c =
     let t = c in
     let unsound = sym t.sound.ensures ∙ not-true _ c.if-not-sound.true-raw in
-    refuses _ _ _ 2 _ ((encode_exactly _ _ _).third t.if-samples-ne160.false t.if-codewords-ne76.false unsound) c.refuse-then-not-sound.ensures
+    refuses _ _ _ 2 _ ((encode_exactly _ _ _).third t.if-samples-ne160.false t.if-codewords-ne76.false unsound)
+    c.refuse-then-not-sound.ensures
 
 pub frame-coded-requires : goal.frame-coded-requires
 frame-coded-requires c = (search rules, (search rules, sym c.sound.ensures ∙ not-false _ c.if-not-sound.false-raw))
