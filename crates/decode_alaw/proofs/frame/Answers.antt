@@ -13,7 +13,7 @@ returns c =
     let d = c.decode_alaw-heard.ensures in
     -- the octets are as many as the buffer takes
     let as_many : length c.decode_alaw-heard.new.octets ≡ 160 = search rules in
-    let full = puts_all c.decode_alaw-heard.new.octets c.args.out.now c.text.ensures (omega (arith, as_many)) in
+    let full = puts_all c.decode_alaw-heard.new.octets c.args.out.now c.text.ensures.puts (omega (arith, as_many)) in
     record {
       state = rw c.from_bytes.ensures at d.state;
       octets = rw (full, d.octets, c.from_bytes.ensures);
