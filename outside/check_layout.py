@@ -71,14 +71,16 @@ def rust_fields(body: str) -> Fields:
 
 def source_structs() -> dict[str, Fields]:
     """The fields of each struct of the calls; each is laid out as in C."""
-    bodies = {name: found(rf'#\[repr\(C\)\]\n(?:#\[derive\([\w, ]*\)\]\n)?pub struct {name} \{{\n(.*?)\n\}}', read(path), f'struct {name} in {path}')
+    head = r'#\[repr\(C\)\]\n(?:#\[derive\([\w, ]*\)\]\n)?pub struct'
+    bodies = {name: found(rf'{head} {name} \{{\n(.*?)\n\}}', read(path), f'struct {name} in {path}')
               for name, path in STRUCTS.items()}
     return {name: rust_fields(body.group(1)) for name, body in bodies.items()}
 
 
 def source_calls() -> dict[str, Call]:
     """The parameters and the result of each call that is exported."""
-    exported = re.findall(r'#\[unsafe\(no_mangle\)\]\npub extern "C" fn (\w+)\((.*?)\)\s*->\s*(\w+)', read(EXPORTS), re.S)
+    export = r'#\[unsafe\(no_mangle\)\]\npub extern "C" fn (\w+)\((.*?)\)\s*->\s*(\w+)'
+    exported = re.findall(export, read(EXPORTS), re.S)
     return {name: (rust_fields(parameters), result) for name, parameters, result in exported}
 
 

@@ -1,12 +1,12 @@
 #!/usr/bin/env python3
-"""Spells this repository's own names of definitions and lemmas as today's Rattle does: words in snake case, facts and types in
-camel case. A dash becomes an underscore; TYPES has the facts that were written small.
+"""Spells this repository's own names of definitions and lemmas as today's Rattle does: words in snake case, facts and
+types in camel case. A dash becomes an underscore; TYPES has the facts that were written small.
 
 usage: tools/respell.py [--list]        at the top, once, after port.py
 
-It goes by text: a name counts as ours where a file of specs/ or proofs/ declares it. Names that Rattle makes (goals, steps), names of
-the source, of the library and of the standard (xMc, LARc) stay as they are. In comments and in pages only what stands in backticks
-is turned. It stops where two of our names would fall together in one crate.
+It goes by text: a name counts as ours where a file of specs/ or proofs/ declares it. Names that Rattle makes (goals,
+steps), names of the source, of the library and of the standard (xMc, LARc) stay as they are. In comments and in pages
+only what stands in backticks is turned. It stops where two of our names would fall together in one crate.
 """
 
 import collections
@@ -22,10 +22,15 @@ TYPES = {
     "not_stopped": "NotStopped",
 }
 # Facts that other files use as the name of something else: each with the module that declares it.
-TYPES_IN = {"count": ("rpe_quantise", "Counts"), "rounding": ("rpe_inverse", "Inverse"), "size": ("short_ratios", "Bounds")}
+TYPES_IN = {
+    "count": ("rpe_quantise", "Counts"),
+    "rounding": ("rpe_inverse", "Inverse"),
+    "size": ("short_ratios", "Bounds"),
+}
 STRING = re.compile(r'"(?:[^"\\\n]|\\.)*"')
 SIGNATURE = re.compile(
-    r"^\s*(?:(?:abbrev|unfoldable|pub|data|record|ruleset) )*([^\s(){};,.\"«»\[\]]+)(?: \{[^{}\n]*\}| \([^()\n]*\))*(?: :| =$| = | where)"
+    r"^\s*(?:(?:abbrev|unfoldable|pub|data|record|ruleset) )*([^\s(){};,.\"«»\[\]]+)"
+    r"(?: \{[^{}\n]*\}| \([^()\n]*\))*(?: :| =$| = | where)"
 )
 TOKEN = re.compile(r"[^\s(){};,.@\"«»\[\]`]+")
 MADE = re.compile(r": (tie|statement|borrow\.|goal)\b")
