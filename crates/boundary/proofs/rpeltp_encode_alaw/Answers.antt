@@ -1,9 +1,6 @@
 -- What encode_alaw answers crosses, and the buffer is left as encode_alaw left it.
-use borrow.Author.Rules.{rules}
 use Rattle.boundary.specs.Crossing.{encode_crosses}
 use Rattle.boundary.proofs.rpeltp_encode_alaw.Goals as goal
 
 pub returns : goal.returns
-returns c =
-    let called = c in
-    encode_crosses called.encode_alaw.ensures c.encode_answer.ensures
+returns c = encode_crosses c.encode_alaw.ensures c.encode_answer.ensures

@@ -2,7 +2,7 @@
 -- (`puts_then`).
 use native.Mathlib.Omega.{arith}
 use Rattle.encoder.specs.Promise.{ending}
-use Rattle.standard.specs.Listing.{text, decimal, ending_text}
+use Rattle.standard.specs.Listing.{text, ending_text}
 use Rattle.list_text.specs.Written.{puts_none, puts_length, puts_then}
 use Rattle.list_lines.specs.Lines.{ending_field}
 use Rattle.list_lines.proofs.ending_field.Goals as goal

@@ -8,26 +8,13 @@ pub returns-then-f-2 : goal.returns-then-f-2
 returns-then-f-2 c = rw (c.if-f.false, c.if-f-2.true)
 
 pub returns-then-f-3 : goal.returns-then-f-3
-returns-then-f-3 c =
-    let e₂ = c in
-    rw (e₂.if-f.false, e₂.if-f-2.false, c.if-f-3.true)
+returns-then-f-3 c = rw (c.if-f.false, c.if-f-2.false, c.if-f-3.true)
 
 pub returns-then-f-4 : goal.returns-then-f-4
-returns-then-f-4 c =
-    let e₃ = c.before in
-    let e₂ = e₃ in
-    rw (e₂.if-f.false, e₂.if-f-2.false, e₃.if-f-3.false, c.if-f-4.true)
+returns-then-f-4 c = rw (c.if-f.false, c.if-f-2.false, c.if-f-3.false, c.if-f-4.true)
 
 pub returns-then-f-5 : goal.returns-then-f-5
-returns-then-f-5 c =
-    let e₄ = c.before in
-    let e₃ = e₄.before in
-    let e₂ = e₃ in
-    rw (e₂.if-f.false, e₂.if-f-2.false, e₃.if-f-3.false, e₄.if-f-4.false, c.if-f-5.true)
+returns-then-f-5 c = rw (c.if-f.false, c.if-f-2.false, c.if-f-3.false, c.if-f-4.false, c.if-f-5.true)
 
 pub returns-else-f-5 : goal.returns-else-f-5
-returns-else-f-5 c =
-    let e₄ = c.before in
-    let e₃ = e₄.before in
-    let e₂ = e₃ in
-    rw (e₂.if-f.false, e₂.if-f-2.false, e₃.if-f-3.false, e₄.if-f-4.false, c.if-f-5.false)
+returns-else-f-5 c = rw (c.if-f.false, c.if-f-2.false, c.if-f-3.false, c.if-f-4.false, c.if-f-5.false)

@@ -1,15 +1,11 @@
 -- Turn i takes frame i and puts its line behind those before it. The invariant counts: i frames more, at most 64 bytes for each
 -- line, no more faults than frames.
-use Prim.Native.Nat.{◌+◌, ◌-◌, ◌*◌, ◌≤◌}
+use Prim.Native.Nat.{◌+◌, ◌*◌, ◌≤◌}
 use mathlib.Core.Path.{◌≡◌}
 use lib.ListN.{length}
-use borrow.Author.Rules.{rules}
-use Rattle.math_integers.specs.Needs.{by_12}
 use Rattle.together.proofs.list.Given as goal
 
 abbrev pub invariant-loop-i : goal.invariant-loop-i
-invariant-loop-i l =    (l.i ≤ l.frames) × (length l.out ≡ length l.initial.out) × (l.end ≤ 64 * l.i) × (l.tally.frames ≡ l.initial.tally.frames + l.i) × (l.tally.apart ≤ l.tally.frames)
-
--- the frames that are left
-abbrev pub decreases-loop-i : goal.decreases-loop-i
-decreases-loop-i l = l.frames - l.i
+invariant-loop-i l =
+    (l.i ≤ l.frames) × (length l.out ≡ length l.initial.out) × (l.end ≤ 64 * l.i) × (l.tally.frames ≡ l.initial.tally.frames + l.i)
+    × (l.tally.apart ≤ l.tally.frames)

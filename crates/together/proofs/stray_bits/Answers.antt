@@ -6,7 +6,6 @@ use lib.IntN.{pos, ◌-ℤ◌}
 use mir.Syntax.{w16}
 use mir.Val.{SFits, to_z}
 use mir.Facts.{to_z_pos}
-use borrow.Author.Rules.{rules}
 use Rattle.math_integers.specs.Halves.{zar, apart}
 use Rattle.math_integers.specs.Sums.{minus_is}
 use Rattle.math_integers.specs.Ranges.{back}
