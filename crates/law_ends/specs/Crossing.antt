@@ -1,7 +1,6 @@
 -- A call of encode from C is one of the calls that the demands speak of: what C gets is an answer that keeps encode's promise, written in
 -- numbers. (The other calls promise the same to C as inside.)
-use Rattle.std.specs.Prelude.{◌≡◌, refl, List, ℤ}
-use Rattle.std.proofs.Common.{sym, ◌∙◌}
+use Rattle.std.specs.Prelude.{◌≡◌, List, ℤ}
 use Rattle.encoder.specs.declared.Encoder.{Encoder}
 use Rattle.encoder.specs.declared.Encoded.{Encoded}
 use Rattle.encoder.specs.Promise.{coder, ending, marks, Encodes}
