@@ -329,7 +329,7 @@ def gather(root: str) -> Names:
             for owner, body in re.findall(r'^impl(?:<[^>]*>)?\s+(\w+).*?\{(.*?)^\}', text, re.S | re.M):
                 names.of_type.setdefault(owner, set()).update(re.findall(r'\bfn (\w+)', body))
     if 'crates.txt' in names.files:
-        names.crates = re.findall(r'^(\w+):', read(root, 'crates.txt') or '', re.M)
+        names.crates = re.findall(r'^(\w+)(?: \w+)?:', read(root, 'crates.txt') or '', re.M)
         names.words |= set(names.crates)
     if 'docs/REQUESTS.md' in names.files:
         names.requests = set(re.findall(r'\bW-\d+\b', read(root, 'docs/REQUESTS.md') or ''))
