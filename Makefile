@@ -59,7 +59,7 @@ soak: ready
 ready: archive build/bin
 	outside/install_packages python3 gcc g++ libc6-dev cargo pkg-config libspandsp2 mypy x86
 	python3 outside/build_libgsm.py
-	outside/make_proved $(PROGRAMS)
+	outside/make_proved $(PROGRAMS) test_operations
 	python3 outside/check_boundary.py --build
 
 archive: build/lib/librpeltp.a
