@@ -6,6 +6,8 @@
 # runs that command in a copy of the repository, keeps the LLVM module that the kit's clang is handed, and has the same
 # clang compile the same module, with the same options, for AArch64. What comes of it is not what is shipped.
 #
+# It is written for an older kit, which had these commands for Arm; with today's kit it does not run.
+#
 # In the module only the calls from C have to change. A struct that goes in by value lies on the stack on x86-64
 # (byval); on AArch64 the caller makes a copy and hands its address (noalias). Of a struct that comes out, the address
 # is the first argument and the answer on x86-64; on AArch64 it is in register x8 and nothing is answered (sret).

@@ -79,6 +79,9 @@ def declared():
 
 
 def main(argv):
+    if not argv and not any(name.endswith("Proof.antt") for name in files(".antt")):
+        print("the proofs are in today's form: it has run here")
+        return 1
     ours, others, made = declared()
     if argv == ["--list"]:
         for name in sorted(ours):
