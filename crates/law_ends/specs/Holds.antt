@@ -17,7 +17,8 @@ use Rattle.law_fields.specs.Fields.{coded_fits, coded_lags}
 use Rattle.law_fields.specs.Valid.{received_valid, received_coded}
 use Rattle.law_soundness.specs.States.{home_coder_sound, coded_sound}
 use Rattle.law_limits.specs.Words.{Carried, home_carried, coded_carried}
-use Rattle.law_limits.specs.Sums.{SixSums, six_sums}
+use Rattle.law_limits.specs.Sums.{SixSums}
+use Rattle.law_limits.proofs.Whole.{six_sums}
 use Rattle.law_ends.specs.Agree.{Agree, same_words}
 
 -- the decoder, once it has decoded the frame that waits

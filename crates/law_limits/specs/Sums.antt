@@ -15,8 +15,8 @@ use Rattle.standard.specs.Preprocessing.{downscaled, Offset, recursive, offset}
 use Rattle.standard.specs.Lpc.{L_ACF}
 use Rattle.standard.specs.LongTerm.{back, scal, correlations, L_power}
 use Rattle.standard.specs.Rpe.{grid}
-use Rattle.standard.specs.Coder.{Coder, coded}
-use Rattle.standard.specs.House.{home_coder, sound_coder}
+use Rattle.standard.specs.Coder.{Coder}
+use Rattle.standard.specs.House.{sound_coder}
 use Rattle.law_arithmetic.specs.Within.{word, within_is}
 use Rattle.law_arithmetic.specs.Sum.{bounded_sum}
 use Rattle.law_lengths.specs.Analysis.{downscaled_length}
@@ -24,13 +24,13 @@ use Rattle.law_lengths.specs.Subframes.{Lag, back_length, grid_length, weighted_
 use Rattle.law_soundness.specs.Ranges.{so_range}
 use Rattle.law_soundness.specs.Decay.{msp, lsp, msp_plain, left_plain, lsp_plain, low_plain, high_plain, first_plain, second_plain}
 use Rattle.law_soundness.specs.Offset.{sound_offset, plain_offset, L_z2_in, L_z2_long, L_s2_long, s1_plain, rounding_plain, sof_plain, offset_sound}
-use Rattle.law_soundness.specs.States.{downscaled_range, offset_all_sound, offset_all_in, offset_all_plain, coded_from_home}
+use Rattle.law_soundness.specs.States.{downscaled_range, offset_all_sound, offset_all_in, offset_all_plain}
 use Rattle.op_sums.specs.Room.{at_most}
 use Rattle.long_search.specs.Bounds.{power_in}
 use Rattle.rpe_weighting.specs.Bounds.{energy_in}
 use Rattle.rpe_weighting.specs.Filter.{around}
 use Rattle.law_limits.specs.Signals.{kept, memory, sof, small, sums, part, history, wt, e, x}
-use Rattle.law_limits.specs.Words.{Carried, small_length, part_words, part_length, x_words, history_words, history_length}
+use Rattle.law_limits.specs.Words.{small_length, x_words}
 use Rattle.law_limits.specs.Words.{home_carried, coded_all_carried}
 use Rattle.law_limits.specs.Sizes.{down_sizes, word_sizes, small_sizes, wt_sizes, back_words, grids_words, around_words}
 use Rattle.law_limits.specs.Steps.{double, doubles, bound, products, partial, alike, taps_most, H_sizes}
@@ -201,18 +201,3 @@ sub_sums dp d v n w l =
 -- of a frame, and of each of its sub-frames from the history and the part of d that it starts from
 abbrev pub SixSums : Coder → List ℤ → Type 0
 SixSums c sop = FrameSums c sop × ((i : ℕ) → i < 4 → SubSums (history c sop i) (part c sop i))
-
--- from any sound state
-pub six_sums : (c : Coder) (sop : List ℤ) → Carried c → sound_coder c ≡ true → length sop ≡ 160 → every word sop ≡ true → SixSums c sop
-six_sums c sop h sound l w = (
-  frame_sums c sop sound l w,
-  λ i k.
-      sub_sums (history c sop i) (part c sop i) (history_words c sop h i) (history_length c sop h i)
-      (part_words c sop i k h) (part_length c sop i k l),
-)
-
--- so from home, whatever frames of words came before
-pub six_sums_from_home : (frames : List (List ℤ)) (sop : List ℤ)
-    → every (every word) frames ≡ true → length sop ≡ 160 → every word sop ≡ true → SixSums (run coded home_coder frames).0 sop
-six_sums_from_home frames sop ws l w =
-    six_sums (run coded home_coder frames).0 sop (coded_all_carried home_coder frames home_carried) (coded_from_home frames ws) l w

@@ -7,7 +7,7 @@ use mir.Val.{SFits}
 use borrow.Author.Rules.{rules}
 use Rattle.law_arithmetic.specs.Within.{word_yes}
 use Rattle.law_limits.specs.Words.{Carried}
-use Rattle.law_limits.specs.Sums.{six_sums}
+use Rattle.law_limits.proofs.Whole.{six_sums}
 use Rattle.law_limits.specs.Shifts.{left_shifts}
 use Rattle.encoder.specs.Promise.{coder}
 use Rattle.law_ends.proofs.limits.Goals as goal
