@@ -7,3 +7,4 @@ pub mod Indices
 pub mod Filters
 pub mod Recursion
 pub mod Ending
+pub mod Calls

@@ -10,3 +10,4 @@ pub mod Every
 pub mod Cut
 pub mod Lengths
 pub mod For
+pub mod Made

@@ -2,92 +2,78 @@
 // shift keeps the low bits. A negative count shifts in the other direction.
 #![tactic(auto)]
 
-ghost use Rattle.std.specs.Prelude.{◌≡◌, true, ◌^◌, pos, nat_abs};
+ghost use Rattle.std.specs.Prelude.{◌≡◌, true, ◌^◌, ℤ, pos};
 ghost use Rattle.std.specs.Int.Signed.{lt_z, shr_z};
-ghost use Rattle.std.specs.Int.{w16, w32};
+ghost use Rattle.std.specs.Int.{Width, w16, w32};
 ghost use Rattle.standard.specs.Arithmetic.{up, shr, shl, norm};
 ghost use Rattle.standard.specs.Lpc.{normalized};
 
-// The absolute value of a count.
-fn size(n: i16) -> u16
-    ensures { result ≡ nat_abs n }
-{
-    if n < 0 {
-        (0 - n as i32) as u16
-    } else {
-        n as u16
+// What can be shifted: a word and a long word. `width` is the standard's, and `value` is the number.
+pub trait Shift {
+    ghost width: { Width };
+
+    ghost value: { Self → ℤ };
+
+    // x >> n, for n >= 0. From the width less 1 on only the sign is left.
+    fn down(self, n: u32) -> Self
+        ensures { value result ≡ shr_z (value self) (2 ^ n) };
+
+    // x << n, for n >= 0. From the width on nothing is left.
+    fn up(self, n: u32) -> Self
+        ensures { value result ≡ up width (value self) n };
+}
+
+#[tactic(auto, using(crate::proofs::Machine::machine))]
+impl Shift for i16 {
+    ghost width = { w16 };
+
+    ghost value = { λ x. x };
+
+    fn down(self, n: u32) -> i16 {
+        self.unbounded_shr(n)
+    }
+
+    fn up(self, n: u32) -> i16 {
+        self.unbounded_shl(n)
     }
 }
 
-// x >> n of a word, for n >= 0. From 15 on only the sign is left.
-fn down_word(x: i16, n: u16) -> i16
-    ensures { result ≡ shr_z x (2 ^ n) }
-{
-    if n < 15 { x >> n } else { x >> 15 }
-}
+#[tactic(auto, using(crate::proofs::Machine::machine))]
+impl Shift for i32 {
+    ghost width = { w32 };
 
-// x << n of a word, for n >= 0. From 16 on nothing is left.
-fn up_word(x: i16, n: u16) -> i16
-    ensures { result ≡ up w16 x n }
-{
-    if n < 16 { x << n } else { 0 }
-}
+    ghost value = { λ x. x };
 
-// x >> n of a long word, for n >= 0. From 31 on only the sign is left.
-fn down_long(x: i32, n: u16) -> i32
-    ensures { result ≡ shr_z x (2 ^ n) }
-{
-    if n < 31 { x >> n } else { x >> 31 }
-}
+    fn down(self, n: u32) -> i32 {
+        self.unbounded_shr(n)
+    }
 
-// x << n of a long word, for n >= 0. From 32 on nothing is left.
-fn up_long(x: i32, n: u16) -> i32
-    ensures { result ≡ up w32 x n }
-{
-    if n < 32 { x << n } else { 0 }
-}
-
-// x >> n of a word.
-pub fn shr(x: i16, n: i16) -> i16
-    ensures { result ≡ shr w16 x n }
-{
-    if n < 0 {
-        up_word(x, size(n))
-    } else {
-        down_word(x, size(n))
+    fn up(self, n: u32) -> i32 {
+        self.unbounded_shl(n)
     }
 }
 
-// x << n of a word. The rescaling of 4.2.4 uses it; there it can lose high bits.
-pub fn shl(x: i16, n: i16) -> i16
-    ensures { result ≡ shl w16 x n }
+// x >> n.
+#[tactic(auto, using(crate::proofs::Machine::counts))]
+pub fn shr<T: Shift>(x: T, n: i16) -> T
+    ensures { T.value result ≡ shr T.width (T.value x) n }
 {
     if n < 0 {
-        down_word(x, size(n))
+        x.up(n.unsigned_abs() as u32)
     } else {
-        up_word(x, size(n))
+        x.down(n as u32)
     }
 }
 
-// x >> n of a long word.
-pub fn l_shr(x: i32, n: i16) -> i32
-    ensures { result ≡ shr w32 x n }
+// x << n. The rescaling of 4.2.4 uses it; there it can lose high bits.
+#[tactic(auto, using(crate::proofs::Machine::counts))]
+pub fn shl<T: Shift>(x: T, n: i16) -> T
+    ensures { T.value result ≡ shl T.width (T.value x) n }
 {
     if n < 0 {
-        up_long(x, size(n))
+        x.down(n.unsigned_abs() as u32)
     } else {
-        down_long(x, size(n))
-    }
-}
-
-// x << n of a long word.
-pub fn l_shl(x: i32, n: i16) -> i32
-    ensures { result ≡ shl w32 x n }
-{
-    if n < 0 {
-        down_long(x, size(n))
-    } else {
-        up_long(x, size(n))
+        x.up(n as u32)
     }
 }
 
@@ -95,7 +81,7 @@ pub fn l_shl(x: i32, n: i16) -> i32
 pub fn normalized(n: i16, x: i32) -> i16
     ensures { result ≡ normalized n x }
 {
-    (l_shl(x, n) >> 16) as i16
+    (shl(x, n) >> 16) as i16
 }
 
 // How many left shifts a positive number needs to be 1073741824 or more: the count of its leading zeros, less 1.
@@ -103,5 +89,5 @@ pub fn norm(a: i32) -> i16
     requires { lt_z (pos 0) a ≡ true }
     ensures { result ≡ norm a }
 {
-    (u32::leading_zeros(a as u32) - 1) as i16
+    (a.leading_zeros() - 1) as i16
 }

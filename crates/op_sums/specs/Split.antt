@@ -1,5 +1,5 @@
 -- A sum of products that cannot saturate is the plain sum of two parts: the sum over the first n pairs and the sum over those after them.
-use Rattle.std.specs.Prelude.{ℕ, ◌+◌, ◌*◌, ◌-◌, ◌<◌, ◌≤◌, ◌≡◌, ℤ, pos, ◌+ℤ◌, ◌*ℤ◌, nat_abs, length, take, drop}
+use Rattle.std.specs.Prelude.{ℕ, ◌+◌, ◌*◌, ◌<◌, ◌≤◌, ◌≡◌, ℤ, pos, ◌+ℤ◌, ◌*ℤ◌, nat_abs, length, take, drop}
 use Rattle.std.proofs.Common.{sym, ap, ap₂, ◌∙◌, arith, mul-le-mul_right, length-take, length-drop, get_or-take, get_or-drop, take-add}
 use mathlib.Core.List.{List, [], ◌∷◌, ◌++◌, zip_with, foldl, foldl-append}
 use Rattle.math_integers.specs.Halves.{zar}

@@ -15,20 +15,13 @@ pub struct Found {
     pub sum: i32,
 }
 
-// The larger of two words.
-fn larger(max: i16, temp: i16) -> i16
-    ensures { result ≡ cond (lt_z max temp) temp max }
-{
-    if max < temp { temp } else { max }
-}
-
 // 4.2.4, 4.2.11, 4.2.15: smax, dmax and xmax.
 pub fn peak(s: &[i16]) -> i16
     ensures { result ≡ peak s.now }
 {
     let mut max = 0i16;
-    for k in 0..s.len() {
-        max = larger(max, op_words::abs(s[k]));
+    for &x in s {
+        max = max.max(op_words::abs(x));
     }
     max
 }
@@ -39,8 +32,8 @@ pub fn l_sum(a: &[i16], b: &[i16]) -> i32
     ensures { result ≡ L_sum (pos 0) a.now b.now }
 {
     let mut sum = 0i32;
-    for i in 0..a.len() {
-        sum = sum + a[i] as i32 * b[i] as i32;
+    for (&x, &y) in a.iter().zip(b) {
+        sum += x as i32 * y as i32;
     }
     sum + sum
 }
@@ -51,9 +44,9 @@ pub fn l_squares(n: u16, xs: &[i16]) -> i32
     ensures { result ≡ L_squares n xs.now }
 {
     let mut sum = 0i32;
-    for i in 0..xs.len() {
-        let wt = (xs[i] >> n) as i32;
-        sum = sum + wt * wt;
+    for &x in xs {
+        let wt = (x >> n) as i32;
+        sum += wt * wt;
     }
     sum + sum
 }
@@ -63,7 +56,7 @@ pub fn better(found: Found, at: usize, sum: i32) -> Found
     ensures { chosen result ≡ cond (lt_z found.sum sum) (best_of at sum) (chosen found) }
 {
     if found.sum < sum {
-        Found { at: at, sum: sum }
+        Found { at, sum }
     } else {
         found
     }

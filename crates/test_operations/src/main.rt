@@ -1,8 +1,10 @@
 // An outside check of 4.1 and of A-law: puts arguments at and around the ends of the range through every operation, and
 // every code and every value of 13 bits through A-law, and prints the results. The stored output is written by
-// outside/compare_operations.py, never by this program. Each function that prints says whether it could; if not, all
-// stops.
+// outside/compare_operations.py, never by this program.
 #![tactic(auto)]
+
+use std::fmt::Display;
+use std::io;
 
 const WORDS: [i16; 20] = [
     -32768, -32767, -32766, -28180, -16385, -16384, -16383, -4097, -2, -1, 0, 1, 2, 511, 8191,
@@ -36,223 +38,143 @@ const COUNTS: [i16; 20] = [
     -32768, -40, -32, -31, -17, -16, -15, -3, -1, 0, 1, 4, 14, 15, 16, 17, 30, 31, 32, 40,
 ];
 
-// What takes one line: the arguments themselves, and the operations on one argument.
-#[derive(Clone, Copy)]
-enum List {
-    Words,
-    Longs,
-    Counts,
-    Abs,
-    LongWord,
-    LowWord,
-    Norm,
-}
+// How far each code and each value of 13 bits lies from the first in its row: a row has 16 codes or 32 values.
+const STEPS: [u8; 32] = [
+    0, 1, 2, 3, 4, 5, 6, 7, 8, 9, 10, 11, 12, 13, 14, 15, 16, 17, 18, 19, 20, 21, 22, 23, 24, 25,
+    26, 27, 28, 29, 30, 31,
+];
 
-// What takes a line for each first argument: the operations on two, and A-law, which goes through all its arguments.
-#[derive(Clone, Copy)]
-enum Table {
-    Add,
-    Sub,
-    Mult,
-    MultR,
-    Div,
-    LMult,
-    LAdd,
-    LSub,
-    Shr,
-    Shl,
-    LShr,
-    LShl,
-    Expand,
-    Compress,
-}
-
-// The arguments by index. The index counts modulo 20: after the last comes the first again.
-fn word(i: usize) -> i16 {
-    let at = i % 20;
-    WORDS[at]
-}
-
-fn long(i: usize) -> i32 {
-    let at = i % 20;
-    LONGS[at]
-}
-
-fn count(i: usize) -> i16 {
-    let at = i % 20;
-    COUNTS[at]
-}
-
-// Entry j of row i: the codes are 16 rows of 16, the values of 13 bits are 256 rows of 32.
-fn code(i: usize, j: usize) -> u8 {
-    (16 * (i % 16) + j % 16) as u8
-}
-
-fn value(i: usize, j: usize) -> i16 {
-    op_words::sub((32 * (i % 256) + j % 32) as i16, 4096)
-}
-
-// A tab and the number.
-fn print_long(rt: &impl Print, n: i32) -> bool {
-    print!(rt; "\t{n}").is_ok()
-}
-
-fn print_word(rt: &impl Print, n: i16) -> bool {
-    print_long(rt, test_longs::long_word(n))
-}
-
-// How a row begins, with its name and its first argument, and how it ends.
-fn print_label(rt: &impl Print, name: &[u8], first: i32) -> bool {
-    rt.write_all(name).is_ok() && print_long(rt, first)
-}
-
-fn end_row(rt: &impl Print) -> bool {
-    rt.write_all(b"\n").is_ok()
-}
-
-// Only a positive number has a norm; for another nothing is printed.
-fn print_norm(rt: &impl Print, n: i32) -> bool {
-    if 0 < n {
-        print_word(rt, op_shifts::norm(n))
-    } else {
-        true
+// What f gives of each argument, and the end of the line.
+fn print_results<A: Copy, R: Display + Drop, F: Fn(A) -> R>(
+    rt: &impl Print,
+    args: &[A],
+    f: F,
+) -> io::Result<()>
+where
+    requires { F.IsAlwaysCallable f }
+{
+    for &a in args {
+        let result = f(a);
+        print!(rt; "\t{result}")?;
     }
+    println!(rt)
 }
 
-// The list's entry for its argument i.
-fn print_item(rt: &impl Print, list: List, i: usize) -> bool {
-    let a = word(i);
-    let x = long(i);
-    match list {
-        List::Words => print_word(rt, a),
-        List::Longs => print_long(rt, x),
-        List::Counts => print_word(rt, count(i)),
-        List::Abs => print_word(rt, op_words::abs(a)),
-        List::LongWord => print_long(rt, test_longs::long_word(a)),
-        List::LowWord => print_word(rt, test_longs::low_word(x)),
-        List::Norm => print_norm(rt, x),
-    }
+// A line: its name, and an operation on each argument.
+fn print_list<A: Copy, R: Display + Drop, F: Fn(A) -> R>(
+    rt: &impl Print,
+    name: &str,
+    args: &[A],
+    f: F,
+) -> io::Result<()>
+where
+    requires { F.IsAlwaysCallable f }
+{
+    print!(rt; "{name}")?;
+    print_results(rt, args, f)
 }
 
-fn print_list(rt: &impl Print, name: &[u8], list: List) -> bool {
-    if rt.write_all(name).is_err() {
-        return false;
+// A line for each first argument: the name, that argument, and an operation on it and each second argument.
+fn print_table<A: Copy + Display, B: Copy, R: Display + Drop, F: Fn(A, B) -> R>(
+    rt: &impl Print,
+    name: &str,
+    firsts: &[A],
+    seconds: &[B],
+    f: F,
+) -> io::Result<()>
+where
+    requires { F.IsAlwaysCallable f }
+{
+    for &a in firsts {
+        print!(rt; "{name}\t{a}")?;
+        print_results(rt, seconds, |b| f(a, b))?;
     }
-    for i in 0..20usize {
-        if !print_item(rt, list, i) {
-            return false;
+    Ok(())
+}
+
+fn print_arguments(rt: &impl Print) -> io::Result<()> {
+    print_list(rt, "words", &WORDS, |a| a)?;
+    print_list(rt, "longs", &LONGS, |x| x)?;
+    print_list(rt, "counts", &COUNTS, |n| n)
+}
+
+fn print_word_pairs(rt: &impl Print) -> io::Result<()> {
+    print_table(rt, "add", &WORDS, &WORDS, op_words::add)?;
+    print_table(rt, "sub", &WORDS, &WORDS, op_words::sub)?;
+    print_table(rt, "mult", &WORDS, &WORDS, op_words::mult)?;
+    print_table(rt, "mult_r", &WORDS, &WORDS, op_words::mult_r)?;
+    print_table(rt, "div", &WORDS, &WORDS, op_words::div)?;
+    print_table(rt, "l_mult", &WORDS, &WORDS, test_longs::l_mult)
+}
+
+fn print_long_pairs(rt: &impl Print) -> io::Result<()> {
+    print_table(rt, "l_add", &LONGS, &LONGS, test_longs::l_add)?;
+    print_table(rt, "l_sub", &LONGS, &LONGS, test_longs::l_sub)
+}
+
+fn print_shifts(rt: &impl Print) -> io::Result<()> {
+    print_table(rt, "shr", &WORDS, &COUNTS, op_shifts::shr::<i16>)?;
+    print_table(rt, "shl", &WORDS, &COUNTS, op_shifts::shl::<i16>)?;
+    print_table(rt, "l_shr", &LONGS, &COUNTS, op_shifts::shr::<i32>)?;
+    print_table(rt, "l_shl", &LONGS, &COUNTS, op_shifts::shl::<i32>)
+}
+
+fn print_singles(rt: &impl Print) -> io::Result<()> {
+    print_list(rt, "abs", &WORDS, op_words::abs)?;
+    print_list(rt, "long_word", &WORDS, test_longs::long_word)?;
+    print_list(rt, "low_word", &LONGS, test_longs::low_word)
+}
+
+// Only a positive number has a norm.
+fn print_norms(rt: &impl Print) -> io::Result<()> {
+    print!(rt; "norm")?;
+    for x in LONGS {
+        if 0 < x {
+            let norm = op_shifts::norm(x);
+            print!(rt; "\t{norm}")?;
         }
     }
-    end_row(rt)
+    println!(rt)
 }
 
-// The table's first argument i.
-fn first(table: Table, i: usize) -> i32 {
-    match table {
-        Table::LAdd | Table::LSub | Table::LShr | Table::LShl => long(i),
-        Table::Expand => code(i, 0) as i32,
-        Table::Compress => test_longs::long_word(value(i, 0)),
-        _ => test_longs::long_word(word(i)),
+fn print_expand(rt: &impl Print) -> io::Result<()> {
+    for i in 0..16u8 {
+        let first = 16 * i;
+        print!(rt; "expand\t{first}")?;
+        print_results(
+            rt,
+            &STEPS[..16],
+            |j| pcm_alaw::expand(first.wrapping_add(j)),
+        )?;
     }
+    Ok(())
 }
 
-// The table at its first argument i and its second argument j: words a and b, long words x and y, or a shift by n; or
-// A-law at entry j of row i.
-fn cell(table: Table, i: usize, j: usize) -> i32 {
-    let a = word(i);
-    let b = word(j);
-    let x = long(i);
-    let y = long(j);
-    let n = count(j);
-    match table {
-        Table::Add => test_longs::long_word(op_words::add(a, b)),
-        Table::Sub => test_longs::long_word(op_words::sub(a, b)),
-        Table::Mult => test_longs::long_word(op_words::mult(a, b)),
-        Table::MultR => test_longs::long_word(op_words::mult_r(a, b)),
-        Table::Div => test_longs::long_word(op_words::div(a, b)),
-        Table::LMult => test_longs::l_mult(a, b),
-        Table::LAdd => test_longs::l_add(x, y),
-        Table::LSub => test_longs::l_sub(x, y),
-        Table::Shr => test_longs::long_word(op_shifts::shr(a, n)),
-        Table::Shl => test_longs::long_word(op_shifts::shl(a, n)),
-        Table::LShr => op_shifts::l_shr(x, n),
-        Table::LShl => op_shifts::l_shl(x, n),
-        Table::Expand => test_longs::long_word(pcm_alaw::expand(code(i, j))),
-        Table::Compress => pcm_alaw::compress(value(i, j)) as i32,
+fn print_compress(rt: &impl Print) -> io::Result<()> {
+    for i in 0..256u16 {
+        let first = 32 * i as i16 - 4096;
+        print!(rt; "compress\t{first}")?;
+        print_results(
+            rt,
+            &STEPS,
+            |j| pcm_alaw::compress(first.wrapping_add(j as i16)),
+        )?;
     }
+    Ok(())
 }
 
-fn print_row(rt: &impl Print, name: &[u8], table: Table, i: usize, width: usize) -> bool {
-    if !print_label(rt, name, first(table, i)) {
-        return false;
-    }
-    for j in 0..width {
-        if !print_long(rt, cell(table, i, j)) {
-            return false;
-        }
-    }
-    end_row(rt)
-}
-
-fn print_rows(rt: &impl Print, name: &[u8], table: Table, rows: usize, width: usize) -> bool {
-    for i in 0..rows {
-        if !print_row(rt, name, table, i, width) {
-            return false;
-        }
-    }
-    true
-}
-
-// An operation's table, of every argument with every other.
-fn print_table(rt: &impl Print, name: &[u8], table: Table) -> bool {
-    print_rows(rt, name, table, 20, 20)
-}
-
-fn print_arguments(rt: &impl Print) -> bool {
-    print_list(rt, b"words", List::Words)
-        && print_list(rt, b"longs", List::Longs)
-        && print_list(rt, b"counts", List::Counts)
-}
-
-fn print_word_pairs(rt: &impl Print) -> bool {
-    print_table(rt, b"add", Table::Add)
-        && print_table(rt, b"sub", Table::Sub)
-        && print_table(rt, b"mult", Table::Mult)
-        && print_table(rt, b"mult_r", Table::MultR)
-        && print_table(rt, b"div", Table::Div)
-        && print_table(rt, b"l_mult", Table::LMult)
-}
-
-fn print_long_pairs(rt: &impl Print) -> bool {
-    print_table(rt, b"l_add", Table::LAdd) && print_table(rt, b"l_sub", Table::LSub)
-}
-
-fn print_shifts(rt: &impl Print) -> bool {
-    print_table(rt, b"shr", Table::Shr)
-        && print_table(rt, b"shl", Table::Shl)
-        && print_table(rt, b"l_shr", Table::LShr)
-        && print_table(rt, b"l_shl", Table::LShl)
-}
-
-fn print_singles(rt: &impl Print) -> bool {
-    print_list(rt, b"abs", List::Abs)
-        && print_list(rt, b"long_word", List::LongWord)
-        && print_list(rt, b"low_word", List::LowWord)
-        && print_list(rt, b"norm", List::Norm)
-}
-
-fn print_alaw(rt: &impl Print) -> bool {
-    print_rows(rt, b"expand", Table::Expand, 16, 16)
-        && print_rows(rt, b"compress", Table::Compress, 256, 32)
+fn print_all(rt: &impl Print) -> io::Result<()> {
+    print_arguments(rt)?;
+    print_word_pairs(rt)?;
+    print_long_pairs(rt)?;
+    print_shifts(rt)?;
+    print_singles(rt)?;
+    print_norms(rt)?;
+    print_expand(rt)?;
+    print_compress(rt)
 }
 
 fn main(rt: HostRuntime) {
-    if print_arguments(&rt)
-        && print_word_pairs(&rt)
-        && print_long_pairs(&rt)
-        && print_shifts(&rt)
-        && print_singles(&rt)
-    {
-        print_alaw(&rt);
-    }
+    // A write that fails ends the output and nothing else: the status stays 0.
+    let _ = print_all(&rt);
 }

@@ -1,33 +1,28 @@
--- By the law `normal`, norm of a positive long word is the count of leading zeros less 1. So the subtraction and the casts are exact.
-use Prim.Native.Nat.{suc}
-use mathlib.Core.Path.{◌≡◌, sym, ap, ◌∙◌}
-use native.Mathlib.Omega.{arith}
-use lib.IntN.{pos, nat_abs}
-use lib.Count.{count_leading_zeros}
-use mir.Syntax.{w32}
-use Rattle.math_integers.specs.Halves.{zar, know, mem}
-use Rattle.math_integers.specs.Ranges.{back}
+-- By the law `normal`, norm of a positive long word is the count of leading zeros less 1. So the subtraction and the cast are exact.
+use Rattle.std.proofs.Common.{◌≡◌, suc, pos, sym, ap, ◌∙◌, arith, nat_abs, of_z}
+use Rattle.std.specs.Int.{w32}
+use Rattle.math_integers.specs.Halves.{N, zar, know, abs_is}
+use Rattle.math_integers.specs.Ranges.{back, bits_pos}
 use Rattle.law_arithmetic.specs.Norm.{Normal, normal}
 use Rattle.op_shifts.proofs.norm.Goals as goal
-use Rattle.op_shifts.proofs.norm.Goals.{Start}
+use Rattle.op_shifts.proofs.norm.Goals.{After-leading_zeros}
 
-normed : (c : Start) → Normal c.args.a
+normed : (c : After-leading_zeros) → Normal c.args.a
 normed c = normal c.args.a c.requires c.ranges.a
 
 -- what the machine counts
-counted : (c : Start) → count_leading_zeros 32 (nat_abs (mem w32 c.args.a)) ≡ suc (normed c).shifts
-counted c = rw (back c.ranges.a) (normed c).counted
-
-pub overflow_cast-result-2 : goal.overflow_cast-result-2
-overflow_cast-result-2 c = omega (zar, counted c, (normed c).most)
-
-pub returns : goal.returns
-returns c =
-    let e = counted c in
-    back (overflow_cast-result-2 c) ∙ (ap pos (omega arith) ∙ sym (normed c).is)
+counted : (c : After-leading_zeros) → c.leading_zeros.result ≡ suc (normed c).shifts
+counted c =
+    let a = c.args.a in
+    let none : N a ≡ 0 = omega (zar, know c.ranges.a) in
+    let e : of_z w32 a ≡ nat_abs a = omega (zar, bits_pos w32 a none, abs_is a) in
+    rw (back c.ranges.a, e) at c.leading_zeros.ensures ∙ (normed c).counted
 
 pub overflow_cast-result : goal.overflow_cast-result
-overflow_cast-result c = omega (zar, know c.ranges.a)
+overflow_cast-result c = omega (zar, counted c, (normed c).most)
+
+pub returns : goal.returns
+returns c = back (overflow_cast-result c) ∙ (ap pos (omega (arith, counted c)) ∙ sym (normed c).is)
 
 pub overflow_sub-result : goal.overflow_sub-result
 overflow_sub-result c = omega (zar, counted c)

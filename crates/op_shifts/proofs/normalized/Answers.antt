@@ -11,19 +11,19 @@ use Rattle.standard.specs.Arithmetic.{◌>>◌, shl}
 use Rattle.standard.specs.Lpc.{normalized}
 use Rattle.law_arithmetic.specs.Shift.{keep_plain, shl_word}
 use Rattle.op_shifts.proofs.normalized.Goals as goal
-use Rattle.op_shifts.proofs.normalized.Goals.{After-l_shl}
+use Rattle.op_shifts.proofs.normalized.Goals.{After-shl}
 
 -- the high half of a long word is a word
 high : (x : ℤ) → SFits w32 x → SFits w16 (x >> 16)
 high x f = omega (zar, know f, shr_is x 65536 (omega arith))
 
 -- what the code shifts right is what the standard does
-result-is : (c : After-l_shl) → let s = c.before in mem w32 c.l_shl.result ≡ shl w32 s.args.x s.args.n
+result-is : (c : After-shl) → let s = c.before in mem w32 c.shl.result ≡ shl w32 s.args.x s.args.n
 result-is c =
     let s = c.before in
-    res c.l_shl ∙ (c.l_shl.ensures ∙ ap₂ (shl w32) (back s.ranges.x) (back s.ranges.n))
+    res c.shl ∙ (c.shl.ensures ∙ ap₂ (shl w32) (back s.ranges.x) (back s.ranges.n))
 
-shifted : (c : After-l_shl) → let s = c.before in SFits w16 (shl w32 s.args.x s.args.n >> 16)
+shifted : (c : After-shl) → let s = c.before in SFits w16 (shl w32 s.args.x s.args.n >> 16)
 shifted c = let s = c.before in high _ (shl_word w32 s.args.x s.args.n s.ranges.x)
 
 pub returns : goal.returns
@@ -31,6 +31,3 @@ unfolding normalized
 returns c =
     let f = shifted c in
     ap (λ (z : ℤ). mem w16 (mem w32 (z >> 16))) (result-is c) ∙ (ap (mem w16) (back {w = w32} (wide f tt)) ∙ (back f ∙ sym (keep_plain f)))
-
-pub overflow_cast-result : goal.overflow_cast-result
-overflow_cast-result c = rw (result-is c, back (wide {v = w32} (shifted c) tt)) (shifted c)

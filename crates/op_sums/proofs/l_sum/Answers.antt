@@ -1,85 +1,67 @@
--- The invariant is the plain sum of the products so far (`Sum`). It cannot saturate, because `Headroom` bounds all products together; it is
--- doubled at the end.
-use Prim.Native.Nat.{◌≤◌}
-use mathlib.Core.Path.{◌≡◌, refl, ◌∙◌}
-use native.Mathlib.Omega.{arith}
-use lib.IntN.{◌*ℤ◌, nat_abs}
-use mir.Syntax.{w16, w32}
-use mir.Val.{SFits}
-use borrow.Author.Rules.{rules, sfits_of}
+-- Each pair of the zip is one more product of the sum (`zip_turn`), and at its end all pairs were added (`zip_end`).
+use Rattle.std.proofs.Common.{◌≡◌, ◌≤◌, ◌<◌, pos, ◌*ℤ◌, nat_abs, length, ap₂, ◌∙◌, arith, rules, SFits}
+use Rattle.std.proofs.lemmas.List.{length_push}
+use Rattle.std.proofs.lemmas.Slice.Zip.{zip_turn, zip_end}
+use Rattle.std.specs.Slice.Iter.{iter_rest}
+use Rattle.std.specs.Iterator.Adapters.{zip_first, zip_second}
+use Rattle.std.specs.Int.{w16, w32}
 use Rattle.math_integers.specs.Halves.{mem}
-use Rattle.math_integers.specs.Ranges.{zfits, back, wide, product_fits}
+use Rattle.math_integers.specs.Ranges.{back, wide, product_fits}
 use Rattle.standard.specs.Tables.{◌at◌}
 use Rattle.op_sums.specs.Along.{sum_start, sum_room, sum_next, sum_fits, sum_end}
 use Rattle.op_sums.proofs.l_sum.Goals as goal
-use Rattle.op_sums.proofs.l_sum.Goals.{After-sum-in-loop-i-1}
+use Rattle.op_sums.proofs.l_sum.Goals.{After-y-1, In-None}
 
-pub loop-i-init : goal.loop-i-init
-loop-i-init c = (omega arith, (c.requires, sum_start _ _ _))
+pub loop-x-init : goal.loop-x-init
+loop-x-init c = (c.requires, sum_start _ _ _)
 
-pub offset_bounds-a-i : goal.offset_bounds-a-i
-offset_bounds-a-i c = search rules
-
-pub bounds-a-i : goal.bounds-a-i
-bounds-a-i c = search rules
-
-pub overflow_cast-sum : goal.overflow_cast-sum
-overflow_cast-sum c = search zfits
-
-pub offset_bounds-b-i : goal.offset_bounds-b-i
-offset_bounds-b-i c = search rules
-
-pub bounds-b-i : goal.bounds-b-i
-bounds-b-i c = let r = c.before.before.loop-i.invariant.1.0.same in omega arith
-
-pub overflow_cast-sum-in-loop-i : goal.overflow_cast-sum-in-loop-i
-overflow_cast-sum-in-loop-i c = search zfits
-
-pub overflow_mul-sum : goal.overflow_mul-sum
-overflow_mul-sum c = search zfits
-
--- what an iteration adds is the product of the two words that were read, which is within the bound
-turn : (c : After-sum-in-loop-i-1) → let t = c.before.before.before in let x = t.before.args.a.now at t.loop-i.i in
-    let y = t.before.args.b.now at t.loop-i.i in
-    (mem w32 (mem w32 (mem w16 x) *ℤ mem w32 (mem w16 y)) ≡ x *ℤ y) × (nat_abs (x *ℤ y) ≤ t.loop-i.invariant.1.0.most)
+-- what an iteration adds is the product of the next words of both lists, which is within the bound
+turn : (c : After-y-1) → let i = length c.loop-x.yielded in let x = c.in-Some.field-0-0.now in let y = c.in-Some.field-0-1.now in
+    (i < length c.args.a.now) × (mem w32 (mem w32 (mem w16 x) *ℤ mem w32 (mem w16 y)) ≡ x *ℤ y)
+    × (x *ℤ y ≡ c.args.a.now at i *ℤ c.args.b.now at i) × (nat_abs (x *ℤ y) ≤ c.loop-x.invariant.0.most)
 turn c =
-    let t = c.before.before.before in
-    let i = t.loop-i.i in
-    let x : SFits w16 (t.before.args.a.now at i) = sfits_of c.before.sum-1.given in
-    let y : SFits w16 (t.before.args.b.now at i) = sfits_of c.sum-in-loop-i-1.given in (
+    let i = length c.loop-x.yielded in
+    let first : iter_rest (zip_first c.into_iter-x-iterator.result) ≡ c.args.a.now = search rules in
+    let second : iter_rest (zip_second c.into_iter-x-iterator.result) ≡ c.args.b.now = search rules in
+    let (k, _, u, v) = zip_turn _ _ c.loop-x.yielded c.into_iter-x-iterator.result c.loop-x.x-iterator c.next.new.self _ first second
+    c.loop-x.yielded_by _ c.in-Some.is c.next.ensures.steps in
+    let x : SFits w16 c.in-Some.field-0-0.now = search rules in
+    let y : SFits w16 c.in-Some.field-0-1.now = search rules in
+    let e = ap₂ ◌*ℤ◌ (u (pos 0)) (v (pos 0)) in (
+      k,
       rw (back x, back y, back (wide {v = w32} x tt), back (wide {v = w32} y tt)) (back {w = w32} (product_fits x y tt)),
-      t.loop-i.invariant.1.0.each i (omega arith) x y,
+      e,
+      rw e (c.loop-x.invariant.0.each i k (rw (u (pos 0)) at x) (rw (v (pos 0)) at y)),
     )
 
 pub overflow_add-sum : goal.overflow_add-sum
 overflow_add-sum c =
-    let t = c.before.before.before in
-    let (r, h) = t.loop-i.invariant.1 in
-    let (e, g) = turn c in
-    rw e (sum_room _ _ r.most r.same r.fits h (omega arith) refl g)
+    let (r, h) = c.loop-x.invariant in
+    let (k, e, p, g) = turn c in
+    rw e (sum_room _ _ r.most r.same r.fits h k p g)
 
-pub overflow_step-i : goal.overflow_step-i
-overflow_step-i c = search rules
+pub loop-x-preserved : goal.loop-x-preserved
+loop-x-preserved c =
+    let (r, h) = c.loop-x.invariant in
+    let (k, e, p, g) = turn c in
+    let f = sum_room _ _ r.most r.same r.fits h k p g in
+    (r, rw (length_push c.loop-x.yielded _, e, back f) (sum_next _ _ r.most r.same r.fits h k p g))
 
-pub loop-i-smaller : goal.loop-i-smaller
-loop-i-smaller c = omega arith
-
-pub loop-i-preserved : goal.loop-i-preserved
-loop-i-preserved c =
-    let t = c.before.before.before in
-    let (r, h) = t.loop-i.invariant.1 in
-    let (e, g) = turn c in
-    let f = sum_room _ _ r.most r.same r.fits h (omega arith) refl g in
-    (omega arith, (r, rw (e, back f) (sum_next _ _ r.most r.same r.fits h (omega arith) refl g)))
+-- all pairs were added
+count : (c : In-None) → length c.loop-x.yielded ≡ length c.args.a.now
+count c =
+    let first : iter_rest (zip_first c.into_iter-x-iterator.result) ≡ c.args.a.now = search rules in
+    let second : iter_rest (zip_second c.into_iter-x-iterator.result) ≡ c.args.b.now = search rules in
+    let e = zip_end _ _ c.loop-x.yielded c.into_iter-x-iterator.result c.loop-x.x-iterator c.next.new.self _ first second
+    c.loop-x.yielded_by c.in-None.is c.next.ensures.steps in
+    omega (arith, e, c.requires.same)
 
 pub overflow_add-result : goal.overflow_add-result
 overflow_add-result c =
-    let t = c.before in
-    let (r, h) = t.loop-i.invariant.1 in
-    sum_fits _ _ r.most r.same r.fits h (omega arith) t.loop-i.invariant.0
+    let (r, h) = c.loop-x.invariant in
+    sum_fits _ _ r.most r.same r.fits h (omega (arith, count c)) (omega (arith, count c))
 
 pub returns : goal.returns
 returns c =
-    let t = c.before in
-    let (r, h) = t.loop-i.invariant.1 in
-    back (overflow_add-result c) ∙ sum_end _ _ r.most r.same r.fits h (omega arith) t.loop-i.invariant.0
+    let (r, h) = c.loop-x.invariant in
+    back (overflow_add-result c) ∙ sum_end _ _ r.most r.same r.fits h (omega (arith, count c)) (omega (arith, count c))

@@ -5,18 +5,6 @@ use Rattle.math_integers.specs.Ranges.{zfits}
 use Rattle.standard.specs.Arithmetic.{clip, plus}
 use Rattle.op_words.proofs.add.Goals as goal
 
-pub overflow_cast-a : goal.overflow_cast-a
-unfolding plus
-overflow_cast-a c = search zfits
-
-pub overflow_cast-b : goal.overflow_cast-b
-unfolding plus
-overflow_cast-b c = search zfits
-
-pub overflow_add-a : goal.overflow_add-a
-unfolding plus
-overflow_add-a c = search zfits
-
 pub returns : goal.returns
 unfolding plus
 returns c = search zfits ∙ (c.clip_word.ensures ∙ ap (clip w16) (search zfits))

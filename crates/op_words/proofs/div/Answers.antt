@@ -13,18 +13,6 @@ use Rattle.law_arithmetic.specs.Div.{div_zero, div_by_none, div_whole, div_fract
 use Rattle.op_words.proofs.div.Goals as goal
 use Rattle.op_words.proofs.div.Goals.{Else-denum-num}
 
-pub overflow_cast-result : goal.overflow_cast-result
-overflow_cast-result c = let s = c.before.before.before in omega (zar, know s.ranges.num)
-
-pub overflow_mul-result : goal.overflow_mul-result
-overflow_mul-result c = let s = c.before.before.before in omega (zar, know s.ranges.num)
-
-pub overflow_cast-result-else-denum-num : goal.overflow_cast-result-else-denum-num
-overflow_cast-result-else-denum-num c = let s = c.before.before.before in omega (zar, know s.ranges.denum)
-
-pub nonzero_div-result : goal.nonzero_div-result
-nonzero_div-result c = let s = c.before.before.before in omega (zar, know s.ranges.denum)
-
 -- past the three tests, div is the quotient of what the locals give back
 quotient : (c : Else-denum-num) → let s = c.before.before.before in
     div s.args.num s.args.denum ≡ pos (nat_abs (mem w16 s.args.num) * 32768 / nat_abs (mem w16 s.args.denum))

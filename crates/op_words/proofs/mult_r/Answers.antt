@@ -5,22 +5,6 @@ use Rattle.math_integers.specs.Ranges.{zfits}
 use Rattle.standard.specs.Arithmetic.{clip, mult_r}
 use Rattle.op_words.proofs.mult_r.Goals as goal
 
-pub overflow_cast-a : goal.overflow_cast-a
-unfolding mult_r
-overflow_cast-a c = search zfits
-
-pub overflow_cast-b : goal.overflow_cast-b
-unfolding mult_r
-overflow_cast-b c = search zfits
-
-pub overflow_mul-a : goal.overflow_mul-a
-unfolding mult_r
-overflow_mul-a c = search zfits
-
-pub overflow_add-a : goal.overflow_add-a
-unfolding mult_r
-overflow_add-a c = search zfits
-
 pub returns : goal.returns
 unfolding mult_r
 returns c = search zfits ∙ (c.clip_word.ensures ∙ ap (clip w16) (search zfits))

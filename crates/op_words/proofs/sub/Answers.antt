@@ -5,18 +5,6 @@ use Rattle.math_integers.specs.Ranges.{zfits}
 use Rattle.standard.specs.Arithmetic.{clip, minus}
 use Rattle.op_words.proofs.sub.Goals as goal
 
-pub overflow_cast-a : goal.overflow_cast-a
-unfolding minus
-overflow_cast-a c = search zfits
-
-pub overflow_cast-b : goal.overflow_cast-b
-unfolding minus
-overflow_cast-b c = search zfits
-
-pub overflow_sub-a : goal.overflow_sub-a
-unfolding minus
-overflow_sub-a c = search zfits
-
 pub returns : goal.returns
 unfolding minus
 returns c = search zfits ∙ (c.clip_word.ensures ∙ ap (clip w16) (search zfits))

@@ -1,0 +1,2 @@
+-- All lemmas of this crate: the machine's shifts.
+pub mod Machine
