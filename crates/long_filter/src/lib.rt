@@ -12,7 +12,7 @@ ghost use Rattle.standard.specs.Decoder.{Nr};
 pub fn is_lag(lag: i16) -> bool
     ensures { result ≡ is_lag lag }
 {
-    40 <= lag && lag <= 120
+    (40..=120).contains(&lag)
 }
 
 // 4.3.2: the received lag if it is from 40 to 120, else the remembered one.
@@ -29,11 +29,8 @@ pub fn estimate(dp: &[i16], lag: usize, bc: usize) -> [i16; 40]
     ensures { result ≡ dpp lag bc dp.now }
 {
     let b = op_tables::gain_qlb(bc);
-    let mut dpp = [0i16; 40];
-    for k in 0..40usize {
-        dpp[k] = op_words::mult_r(b, dp[120 - lag + k]);
-    }
-    dpp
+    let from = &dp[120 - lag..160 - lag];
+    std::array::from_fn(|k| op_words::mult_r(b, from[k]))
 }
 
 // 4.2.12: the long term residual e, which is d less its estimate.
@@ -41,12 +38,7 @@ pub fn residual(d: &[i16], dpp: [i16; 40]) -> [i16; 40]
     requires { length d.now ≡ 40 }
     ensures { result ≡ residual d.now dpp }
 {
-    let mut e = [0i16; 40];
-    for k in 0..40usize {
-        let estimate = dpp[k];
-        e[k] = op_words::sub(d[k], estimate);
-    }
-    e
+    std::array::from_fn(|k| op_words::sub(d[k], dpp[k]))
 }
 
 // 4.2.18: the 40 samples that a sub-frame adds to the history: the pulses plus the estimate.
@@ -54,9 +46,6 @@ pub fn reconstructed(ep: [i16; 40], dpp: [i16; 40], new: &mut [i16])
     requires { length new.old ≡ 40 }
     ensures { new.new ≡ zip_with add ep dpp }
 {
-    for k in 0..40usize {
-        let pulse = ep[k];
-        let estimate = dpp[k];
-        new[k] = op_words::add(pulse, estimate);
-    }
+    let sums: [i16; 40] = std::array::from_fn(|k| op_words::add(ep[k], dpp[k]));
+    new.copy_from_slice(&sums);
 }

@@ -9,9 +9,7 @@ pub fn remembered(dp: [i16; 120]) -> [i16; 280]
     ensures { result ≡ dp ++ replicate 160 (pos 0) }
 {
     let mut all = [0i16; 280];
-    for k in 0..120usize {
-        all[k] = dp[k];
-    }
+    all[..120].copy_from_slice(&dp);
     all
 }
 
@@ -21,8 +19,6 @@ pub fn last(dp: &[i16]) -> [i16; 120]
     ensures { result ≡ dp.now }
 {
     let mut kept = [0i16; 120];
-    for k in 0..120usize {
-        kept[k] = dp[k];
-    }
+    kept.copy_from_slice(dp);
     kept
 }

@@ -16,7 +16,8 @@ ghost use Rattle.long_search.specs.Search.{correlated, lasts, gain_code};
 use op_sums::Found;
 
 // What the search found: the lag, its sum before the rescaling, and whether any sum was above 0. If none was, the lag
-// is 40, where the search starts.
+// is 40, where the search starts. The flag stands beside the sum, although the sum decides it, because the promises of
+// lag_and_gain and of the crates above name each of the three.
 #[derive(Clone, Copy)]
 pub struct Search {
     pub lag: usize,
@@ -50,11 +51,7 @@ fn weighed(scal: i16, d: &[i16]) -> [i16; 40]
     ensures is { result ≡ map (λ x. shr w16 x scal) d.now }
     ensures small { every (at_most 512) result ≡ true }
 {
-    let mut wt = [0i16; 40];
-    for k in 0..40usize {
-        wt[k] = op_shifts::shr(d[k], scal);
-    }
-    wt
+    std::array::from_fn(|k| op_shifts::shr(d[k], scal))
 }
 
 // Each element of a slice is a word. The search has to know this before it adds the results of two calls. Reading the
@@ -62,9 +59,7 @@ fn weighed(scal: i16, d: &[i16]) -> [i16; 40]
 pub fn each_a_word(s: &[i16])
     ensures { every word s.now ≡ true }
 {
-    for k in 0..s.len() {
-        let x = s[k];
-    }
+    for &_word in s {}
 }
 
 // The sum of the last 8 of the 40 products, at each index of dp where a lag starts. The compiler makes vector code for
@@ -74,14 +69,10 @@ fn lasts(wt: &[i16], dp: &[i16]) -> [i32; 81]
         × ((every (at_most 512) wt.now ≡ true) × (every word dp.now ≡ true)) }
     ensures { result ≡ lasts wt.now dp.now }
 {
-    let mut last = [0i32; 81];
-    for j in 0..81usize {
-        last[j] = op_sums::l_sum(&wt[32..40], &dp[32 + j..40 + j]);
-    }
-    last
+    std::array::from_fn(|j| op_sums::l_sum(&wt[32..40], &dp[32 + j..40 + j]))
 }
 
-// The lags from 40 to 120, upwards: at each the first 32 products and the last 8.
+// The lags from 40 to 120, upwards: at each the first 32 products and the last 8. The index i is data: the lag less 40.
 fn lag_search(wt: &[i16], dp: &[i16]) -> Search
     requires { ((length wt.now ≡ 40) × (length dp.now ≡ 120)) × (every (at_most 512) wt.now ≡ true) }
     ensures lag { result.lag ≡ 40 + (best (correlated wt.now dp.now)).at }
@@ -91,11 +82,11 @@ fn lag_search(wt: &[i16], dp: &[i16]) -> Search
     each_a_word(dp);
     let last = lasts(wt, dp);
     let mut found = Found { at: 0, sum: 0 };
-    for i in 0..81usize {
+    for i in 0..81 {
         found = op_sums::better(
             found,
             i,
-            op_sums::l_sum(&wt[0..32], &dp[80 - i..112 - i]) + last[80 - i],
+            op_sums::l_sum(&wt[..32], &dp[80 - i..112 - i]) + last[80 - i],
         );
     }
     Search {
@@ -117,15 +108,9 @@ fn power(lag: usize, dp: &[i16]) -> i32
 fn level(r: i16, s: i16) -> usize
     ensures { result ≡ standard.gain_level r s }
 {
-    if r <= op_words::mult(s, op_tables::gain_dlb(0)) {
-        0
-    } else if r <= op_words::mult(s, op_tables::gain_dlb(1)) {
-        1
-    } else if r <= op_words::mult(s, op_tables::gain_dlb(2)) {
-        2
-    } else {
-        3
-    }
+    (0..3)
+        .find(|&i| r <= op_words::mult(s, op_tables::gain_dlb(i)))
+        .unwrap_or(3)
 }
 
 // bc from L_max and L_power. Both are normalised by the norm of L_power. L_max is smaller, so it loses nothing either.
@@ -156,11 +141,8 @@ pub fn lag_and_gain(d: &[i16], dp: &[i16]) -> Parameters
 {
     let n = scal(d);
     let wt = weighed(n, d);
-    let search = lag_search(&wt[0..40], dp);
-    let lmax = op_shifts::l_shr(search.sum, op_words::sub(6, n));
+    let search = lag_search(&wt, dp);
+    let lmax = op_shifts::shr(search.sum, op_words::sub(6, n));
     let bc = gain(lmax, power(search.lag, dp));
-    Parameters {
-        search: search,
-        bc: bc,
-    }
+    Parameters { search, bc }
 }

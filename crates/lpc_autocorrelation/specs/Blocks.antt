@@ -1,5 +1,5 @@
 -- 4.2.4 in blocks of 32: with eight zeros before the samples, each of the nine sums goes over all 160, and is the sum of five blocks.
-use Rattle.std.specs.Prelude.{ℕ, ◌+◌, ◌-◌, ◌≤◌, ◌<◌, ◌≡◌, refl, true, List, ◌++◌, ℤ, pos, ◌+ℤ◌, ◌*ℤ◌, nat_abs, length, take, drop, replicate}
+use Rattle.std.specs.Prelude.{ℕ, ◌+◌, ◌-◌, ◌*◌, ◌≤◌, ◌<◌, ◌≡◌, refl, true, List, ◌++◌, ℤ, pos, ◌+ℤ◌, ◌*ℤ◌, nat_abs, length, take, drop, replicate}
 use Rattle.std.proofs.Common.{sym, ap, ◌∙◌, append_assoc, arith, length-take, length-drop, length-append, take_all, take_at, drop_at, drop-drop, length-take-le, SFits, leb-true}
 use Rattle.std.proofs.lemmas.List.{length-replicate, get_or-replicate, replicate-append-replicate}
 use Rattle.std.specs.Int.{w32}
@@ -11,7 +11,7 @@ use Rattle.standard.specs.Tables.{◌at◌}
 use Rattle.standard.specs.Lpc.{L_ACF}
 use Rattle.op_sums.specs.Room.{at_most, Headroom, L_sum_in}
 use Rattle.op_sums.specs.Split.{L_sum_parts}
-use Rattle.lpc_autocorrelation.specs.Bounds.{small_room, small_in, L_ACF_at}
+use Rattle.lpc_autocorrelation.specs.Bounds.{small_room, small_within, small_in, L_ACF_at}
 
 -- the samples after eight zeros
 abbrev pub padded : List ℤ → List ℤ
@@ -45,7 +45,11 @@ module _ (z : List ℤ) (l : length z ≡ 168) (p : every (at_most 2048) z ≡ t
     pub parts_room : Headroom (take n (drop a z)) (take n (drop b z))
     parts_room = small_room _ _ same few (part_small a) (part_small b)
 
-    -- and their sum fits
+    -- their sum is within as many times the greatest product, doubled
+    pub parts_in : nat_abs (products z n a b) ≤ n * 8388608
+    parts_in = rw (part_length a u) at (small_within _ _ same few (part_small a) (part_small b))
+
+    -- and fits
     pub parts_fit : SFits w32 (products z n a b)
     parts_fit = omega (zar, small_in _ _ same few (part_small a) (part_small b), abs_is (products z n a b))
 

@@ -71,9 +71,12 @@ module _ (a b : List ℤ) (l : length a ≡ length b) (m : length a ≤ 160)
   small_plain : let t = foldl ◌+ℤ◌ (pos 0) (zip_with ◌*ℤ◌ a b) in L_sum (pos 0) a b ≡ t +ℤ t
   small_plain = L_sum_plain a b 4194304 l product_in products_fit
 
-  -- and within 160 times the greatest product, doubled
+  -- and within as many times the greatest product, doubled
+  pub small_within : nat_abs (L_sum (pos 0) a b) ≤ length a * 8388608
+  small_within = L_sum_in a b 4194304 l product_in products_fit
+
   pub small_in : nat_abs (L_sum (pos 0) a b) ≤ 1342177280
-  small_in = omega (arith, L_sum_in a b 4194304 l product_in products_fit)
+  small_in = omega (arith, small_within)
 
 -- ---- the nine sums
 

@@ -1,5 +1,6 @@
--- All that the specs of this crate have: the scale, the bounds of the nine sums, the energy, and the sums in blocks.
+-- All that the specs of this crate have: the scale, the bounds of the nine sums, the energy, the sums in blocks, and the change in place.
 pub mod Energy
 pub mod Scale
 pub mod Bounds
 pub mod Blocks
+pub mod InPlace

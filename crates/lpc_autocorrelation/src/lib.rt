@@ -17,7 +17,7 @@ pub fn scalauto(s: &[i16]) -> i16
     if smax == 0 {
         0
     } else {
-        op_words::sub(4, op_shifts::norm((smax as i32) << 16))
+        op_words::sub(4, op_shifts::norm(i32::from(smax) << 16))
     }
 }
 
@@ -27,8 +27,8 @@ pub fn scaled(scale: i16, s: &mut [i16])
 {
     if 0 < scale {
         let factor = op_shifts::shr(16384, op_words::sub(scale, 1));
-        for k in 0..s.len() {
-            s[k] = op_words::mult_r(s[k], factor);
+        for x in s.iter_mut() {
+            *x = op_words::mult_r(*x, factor);
         }
     }
 }
@@ -38,23 +38,21 @@ fn padded(s: &[i16]) -> [i16; 168]
     requires { length s.now ≡ 160 }
     ensures { result ≡ padded s.now }
 {
-    let mut z = [0i16; 168];
-    for k in 0..160usize {
-        z[8 + k] = s[k];
-    }
+    let mut z = [0; 168];
+    z[8..].copy_from_slice(s);
     z
 }
 
 // The sum of the products of each sample and the one k samples before it, in five blocks of 32, for which the compiler
 // makes vector code. A product with one of the zeros adds nothing: that this is L_ACF[k] is `upto_all` (specs/Blocks).
-fn at_distance(k: usize, z: &[i16]) -> i32
-    requires { (length z.now ≡ 168) × ((every (at_most 2048) z.now ≡ true) × (k ≤ 8)) }
+fn at_distance(k: usize, z: &[i16; 168]) -> i32
+    requires { (every (at_most 2048) z.now ≡ true) × (k ≤ 8) }
     ensures { result ≡ upto z.now k 160 }
 {
-    let mut sum = 0i32;
-    for j in 0..5usize {
+    let mut sum = 0;
+    for j in 0..5 {
         let a = 32 * j;
-        sum = sum + op_sums::l_sum(&z[8 + a..40 + a], &z[8 - k + a..40 - k + a]);
+        sum += op_sums::l_sum(&z[8 + a..40 + a], &z[8 - k + a..40 - k + a]);
     }
     sum
 }
@@ -65,20 +63,18 @@ pub fn l_acf(s: &[i16]) -> [i32; 9]
     ensures { result ≡ L_ACF s.now }
 {
     let z = padded(s);
-    let mut acf = [0i32; 9];
-    for k in 0..9usize {
-        acf[k] = at_distance(k, &z[0..168]);
-    }
-    acf
+    std::array::from_fn(|k| at_distance(k, &z))
 }
 
 // Scaling back. The shift keeps the low 16 bits: at scalauto 4 a sample from 32760 to 32767 becomes -32768.
+// `scaled` does another operation. One function for both would take it as a closure, and have a contract longer than
+// the loop.
 pub fn rescaled(scale: i16, s: &mut [i16])
     ensures { s.new ≡ rescaled scale s.old }
 {
     if 0 < scale {
-        for k in 0..s.len() {
-            s[k] = op_shifts::shl(s[k], scale);
+        for x in s.iter_mut() {
+            *x = op_shifts::shl(*x, scale);
         }
     }
 }

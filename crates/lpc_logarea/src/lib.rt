@@ -1,8 +1,8 @@
 // 4.2.6, 4.2.7: from the reflection coefficients to the Log.-Area Ratios and their codes.
 #![tactic(auto)]
 
-ghost use Rattle.std.specs.Prelude.{◌≡◌};
-ghost use Rattle.standard.specs.Lpc.{area_ratio, LAR, clamped, LARc, ratio_codes};
+ghost use Rattle.std.specs.Prelude.{◌≡◌, ◌<◌};
+ghost use Rattle.standard.specs.Lpc.{area_ratio, LAR, LARc, ratio_codes};
 
 // 4.2.6: the piecewise line, for an absolute value.
 fn area_ratio(temp: i16) -> i16
@@ -25,21 +25,9 @@ fn lar(r: i16) -> i16
     if r < 0 { op_words::sub(0, temp) } else { temp }
 }
 
-// x, limited to the range from least to most.
-fn clamped(least: i16, most: i16, x: i16) -> i16
-    ensures { result ≡ clamped least most x }
-{
-    if most < x {
-        most
-    } else if x < least {
-        least
-    } else {
-        x
-    }
-}
-
 // 4.2.7: LARc[i + 1] from LAR[i + 1].
 fn larc(i: usize, lar: i16) -> i16
+    requires { i < 8 }
     ensures { result ≡ LARc i lar }
 {
     let scaled = op_words::add(
@@ -48,16 +36,12 @@ fn larc(i: usize, lar: i16) -> i16
     );
     let temp = op_words::add(scaled, 256) >> 9;
     let mic = op_tables::lar_mic(i);
-    op_words::sub(clamped(mic, op_tables::lar_mac(i), temp), mic)
+    op_words::sub(temp.clamp(mic, op_tables::lar_mac(i)), mic)
 }
 
 // 4.2.6, 4.2.7: LARc[1..8] from r[1..8].
 pub fn ratio_codes(r: [i16; 8]) -> [i16; 8]
     ensures { result ≡ ratio_codes r }
 {
-    let mut larc_all = [0i16; 8];
-    for i in 0..8usize {
-        larc_all[i] = larc(i, lar(r[i]));
-    }
-    larc_all
+    std::array::from_fn(|i| larc(i, lar(r[i])))
 }

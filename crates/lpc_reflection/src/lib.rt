@@ -9,7 +9,7 @@ ghost use Rattle.law_loops.specs.Recursion.{PK_loop, K_start};
 ghost use Rattle.lpc_reflection.specs.Promise.{ended};
 
 // How the recursion ended: not started, because the first sum is 0; stopped at step 1 to 8; or all steps done.
-#[derive(Clone, Copy)]
+#[derive(Clone, Copy, PartialEq, Eq, Debug)]
 pub enum Ending {
     Silent,
     Stopped(u8),
@@ -36,22 +36,14 @@ fn acf(l_acf: [i32; 9]) -> [i16; 9]
     ensures { result ≡ lpc.ACF l_acf }
 {
     let temp = op_shifts::norm(l_acf[0]);
-    let mut acf = [0i16; 9];
-    for i in 0..9usize {
-        acf[i] = op_shifts::normalized(temp, l_acf[i]);
-    }
-    acf
+    std::array::from_fn(|i| op_shifts::normalized(temp, l_acf[i]))
 }
 
-// K[9 - i] = ACF[i], for i = 1 to 7.
+// K[9 - i] = ACF[i], for i = 1 to 7. K[0] and K[1] are 0.
 fn k_start(acf: [i16; 9]) -> [i16; 9]
     ensures { result ≡ K_start acf (replicate 9 (pos 0)) }
 {
-    let mut k = [0i16; 9];
-    for i in 1..8usize {
-        k[9 - i] = acf[i];
-    }
-    k
+    std::array::from_fn(|i| if i < 2 { 0 } else { acf[9 - i] })
 }
 
 // r[n] from P[0] and P[1].
@@ -62,22 +54,23 @@ fn coefficient(p0: i16, p1: i16) -> i16
     if 0 < p1 { op_words::sub(0, r) } else { r }
 }
 
-// Step n of the recursion: P and K after it.
-fn step(n: usize, rn: i16, a: Arrays) -> Arrays
-    requires { (1 ≤ n) × (n ≤ 8) }
-    ensures p { result.p ≡ (PK_loop n rn a.p a.k).0 }
-    ensures k { result.k ≡ (PK_loop n rn a.p a.k).1 }
-{
-    let mut p = a.p;
-    let mut k = a.k;
-    p[0] = op_words::add(p[0], op_words::mult_r(p[1], rn));
-    for m in 1..9 - n {
-        let above = p[m + 1];
-        let own = k[9 - m];
-        p[m] = op_words::add(above, op_words::mult_r(own, rn));
-        k[9 - m] = op_words::add(own, op_words::mult_r(above, rn));
+impl Arrays {
+    // Step n of the recursion: P and K after it. By value, as the house rules name the form ('Forms').
+    fn step(self, n: usize, rn: i16) -> Arrays
+        requires { (1 ≤ n) × (n ≤ 8) }
+        ensures p { result.p ≡ (PK_loop n rn self.p self.k).0 }
+        ensures k { result.k ≡ (PK_loop n rn self.p self.k).1 }
+    {
+        let Arrays { mut p, mut k } = self;
+        p[0] = op_words::add(p[0], op_words::mult_r(p[1], rn));
+        for m in 1..9 - n {
+            let above = p[m + 1];
+            let own = k[9 - m];
+            p[m] = op_words::add(above, op_words::mult_r(own, rn));
+            k[9 - m] = op_words::add(own, op_words::mult_r(above, rn));
+        }
+        Arrays { p, k }
     }
-    Arrays { p: p, k: k }
 }
 
 // The recursion, from L_ACF[0..8]. It stops where P[0] < abs( P[1] ), and goes on at equality. The coefficients from
@@ -87,32 +80,28 @@ pub fn reflection_coefficients(l_acf: [i32; 9]) -> Reflection
     ensures r { result.r ≡ lpc.r l_acf }
     ensures ending { ended result.ending ≡ lpc.ending l_acf }
 {
-    let mut r = [0i16; 8];
+    let mut r = [0; 8];
     if l_acf[0] == 0 {
         return Reflection {
-            r: r,
+            r,
             ending: Ending::Silent,
         };
     }
     let p = acf(l_acf);
-    let mut a = Arrays {
-        p: p,
-        k: k_start(p),
-    };
-    for n in 1..9usize {
-        let p = a.p;
-        if p[0] < op_words::abs(p[1]) {
+    let mut a = Arrays { p, k: k_start(p) };
+    for n in 1..9 {
+        if a.p[0] < op_words::abs(a.p[1]) {
             return Reflection {
-                r: r,
+                r,
                 ending: Ending::Stopped(n as u8),
             };
         }
-        let rn = coefficient(p[0], p[1]);
+        let rn = coefficient(a.p[0], a.p[1]);
         r[n - 1] = rn;
-        a = step(n, rn, a);
+        a = a.step(n, rn);
     }
     Reflection {
-        r: r,
+        r,
         ending: Ending::Complete,
     }
 }

@@ -3,7 +3,9 @@ use Rattle.std.specs.Prelude.{ℕ, ◌+◌, ◌-◌, ◌/◌, ◌%◌, ◌<◌, 
 use Rattle.std.proofs.Common.{ap, arith, eqb-true, leb-true, ltb-true}
 use Rattle.std.proofs.Math.Bool.{and-eq-true_iff}
 use Rattle.std.proofs.lemmas.List.{length-map}
-use Rattle.math_integers.specs.Halves.{abs_is}
+use Rattle.std.specs.Int.{w16}
+use mir.Val.{SFits}
+use Rattle.math_integers.specs.Halves.{zar, abs_is}
 use Rattle.math_integers.specs.Sums.{neg_is, scale_is}
 use Rattle.math_lists.specs.First.{first, by_cond}
 use Rattle.math_lists.specs.Every.{every, every_tab, every_map, every_all}
@@ -11,7 +13,7 @@ use Rattle.math_lists.specs.Tab.{tab}
 use Rattle.standard.specs.Arithmetic.{◌>>◌}
 use Rattle.standard.specs.Tables.{neg}
 use Rattle.standard.specs.Alaw.{turned, magnitude, expanded, in_segment, segment, placed, compressed, limited, alaw_samples, alaw_octets}
-use Rattle.law_arithmetic.specs.Within.{word, range_yes}
+use Rattle.law_arithmetic.specs.Within.{word, word_yes}
 use Rattle.pcm_alaw.specs.Rules.{placed_below}
 
 -- ---- a code that is expanded and then compressed is the same code again
@@ -100,14 +102,16 @@ unfolding compressed
 compressed_byte (pos n) = turned_byte (128 + placed (limited n)) (omega (arith, placed_below (limited n) (omega arith)))
 compressed_byte (negsuc n) = turned_byte (placed (limited n)) (omega (arith, placed_below (limited n) (omega arith)))
 
--- ---- samples are words, for all octets
+-- ---- samples are words, for all octets, and so are their values
+
+pub expanded_fits : (c : ℕ) → SFits w16 (expanded c)
+expanded_fits c = omega (zar, expanded_most c, abs_is (expanded c))
+
+pub sample_fits : (c : ℕ) → SFits w16 (expanded c *ℤ pos 8)
+sample_fits c = omega (zar, expanded_most c, abs_is (expanded c), scale_is (expanded c) 8)
 
 sample_word : (c : ℕ) → word (expanded c *ℤ pos 8) ≡ true
-sample_word c =
-    let m = expanded_most c in
-    let a = abs_is (expanded c) in
-    let s = scale_is (expanded c) 8 in
-    range_yes 32768 32767 (expanded c *ℤ pos 8) (omega arith) (omega arith)
+sample_word c = word_yes _ (sample_fits c)
 
 pub samples_words : (octets : List ℕ) → every word (alaw_samples octets) ≡ true
 unfolding alaw_samples

@@ -2,13 +2,12 @@
 // stand for, and the octets of samples.
 #![tactic(auto)]
 
-ghost use Rattle.std.specs.Prelude.{◌≡◌, ◌<◌, ◌≤◌, min, pos, ◌*ℤ◌, nat_abs, length};
-ghost use Rattle.math_lists.specs.Tab.{tab};
+ghost use Rattle.std.specs.Prelude.{◌≡◌, ◌<◌, length};
 ghost use Rattle.standard.specs.Alaw.{expanded, placed, compressed, alaw_samples, alaw_octets};
 ghost use Rattle.pcm_alaw.specs.Rules.{counted};
 
-// The value of each code. One computed test over the whole table shows that it obeys the rule (`table`).
-const EXPANDED: [i16; 256] = [
+// The value of each code. One computed test over the whole table shows that it obeys the rule (proofs/expand).
+static EXPANDED: [i16; 256] = [
     -688, -656, -752, -720, -560, -528, -624, -592, -944, -912, -1008, -976, -816, -784, -880,
     -848, -344, -328, -376, -360, -280, -264, -312, -296, -472, -456, -504, -488, -408, -392, -440,
     -424, -2752, -2624, -3008, -2880, -2240, -2112, -2496, -2368, -3776, -3648, -4032, -3904,
@@ -26,35 +25,11 @@ const EXPANDED: [i16; 256] = [
     86, 82, 94, 90, 70, 66, 78, 74, 118, 114, 126, 122, 102, 98, 110, 106,
 ];
 
-// The table as a local variable. A constant that is indexed in a loop is copied in each iteration.
-fn table() -> [i16; 256]
-    ensures { result ≡ tab expanded 0 256 }
-{
-    EXPANDED
-}
-
-// A code as an index of the table.
-fn place(code: u8) -> usize
-    ensures is { result ≡ code }
-    ensures below { result < 256 }
-{
-    code as usize
-}
-
 // The 13-bit value of a code.
 pub fn expand(code: u8) -> i16
     ensures { result ≡ expanded code }
 {
-    let t = table();
-    let at = place(code);
-    t[at]
-}
-
-// The smaller of two numbers.
-fn least(a: u16, b: u16) -> u16
-    ensures { result ≡ min a b }
-{
-    if a < b { a } else { b }
+    EXPANDED[usize::from(code)]
 }
 
 // Segment and step of a value of 12 bits. Each segment s lies on a line with one step for each 2^s values. At every
@@ -65,16 +40,16 @@ fn placed(n: u16) -> u8
     ensures is { result ≡ placed n }
     ensures below { result < 128 }
 {
-    let low = least(n / 2, least(n / 4 + 16, n / 8 + 32));
-    let high = least(n / 32 + 64, least(n / 64 + 80, n / 128 + 96));
-    least(low, least(n / 16 + 48, high)) as u8
+    let low = (n / 2).min(n / 4 + 16).min(n / 8 + 32);
+    let high = (n / 32 + 64).min(n / 64 + 80).min(n / 128 + 96);
+    low.min(n / 16 + 48).min(high) as u8
 }
 
-// The number that is taken for v: -v - 1 if v is negative, else v itself.
+// The number that is taken for v: -v - 1, which is `!v`, if v is negative, else v itself.
 fn counted(v: i16) -> u16
     ensures { result ≡ counted v }
 {
-    if v < 0 { (-1 - v) as u16 } else { v as u16 }
+    if v < 0 { !v as u16 } else { v as u16 }
 }
 
 // The code of a value: its segment and step, the top bit set unless the value is negative, the even bits inverted. A
@@ -82,27 +57,18 @@ fn counted(v: i16) -> u16
 pub fn compress(v: i16) -> u8
     ensures { result ≡ compressed v }
 {
-    let c = placed(least(counted(v), 4095));
+    let c = placed(counted(v).min(4095));
     if v < 0 { c ^ 0x55 } else { (128 + c) ^ 0x55 }
 }
 
-// The sample of a 13-bit value: 8 times the value.
-fn sample(v: i16) -> i16
-    requires { nat_abs v ≤ 4032 }
-    ensures { result ≡ v *ℤ pos 8 }
-{
-    v * 8
-}
-
-// The samples that octets stand for.
+// The samples that octets stand for: 8 times the 13-bit values. The writes go by index: of a slice that is written
+// through `iter_mut().zip(..)` a proof knows only the length afterwards.
 pub fn samples(octets: &[u8], samples: &mut [i16])
     requires { length samples.old ≡ length octets.now }
     ensures { samples.new ≡ alaw_samples octets.now }
 {
-    let t = table();
-    for i in 0..octets.len() {
-        let at = place(octets[i]);
-        samples[i] = sample(t[at]);
+    for (i, &octet) in octets.iter().enumerate() {
+        samples[i] = expand(octet) * 8;
     }
 }
 
@@ -111,7 +77,7 @@ pub fn octets(samples: &[i16], octets: &mut [u8])
     requires { length octets.old ≡ length samples.now }
     ensures { octets.new ≡ alaw_octets samples.now }
 {
-    for i in 0..samples.len() {
-        octets[i] = compress(samples[i] >> 3);
+    for (i, &sample) in samples.iter().enumerate() {
+        octets[i] = compress(sample >> 3);
     }
 }

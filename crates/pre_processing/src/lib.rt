@@ -6,7 +6,7 @@ ghost use Rattle.std.specs.Prelude.{◌≡◌, true, ◌≤◌, pos, ◌+ℤ◌,
 ghost use Rattle.math_lists.specs.Scan.{run};
 ghost use Rattle.std.specs.Int.Signed.{shr_z};
 ghost use Rattle.std.specs.Int.{w16};
-ghost use Rattle.standard.specs.Arithmetic.{up, within};
+ghost use Rattle.standard.specs.Arithmetic.{up};
 ghost use Rattle.standard.specs.Preprocessing.{downscaled, offset, emphasis};
 ghost use Rattle.law_soundness.specs.Ranges.{L_z2_range};
 ghost use Rattle.law_soundness.specs.Decay.{decayed};
@@ -20,20 +20,13 @@ pub struct Kept {
     pub l_z2: i32,
 }
 
-// Whether z is in the range from least to most.
-fn within(least: i32, most: i32, z: i32) -> bool
-    ensures { result ≡ within least most z }
-{
-    least <= z && z <= most
-}
-
 // House rules, 'Soundness': z1 and the difference L_z2 - 32768 * z1 are in their ranges.
 pub fn sound(m: Kept) -> bool
     ensures { result ≡ sound_offset (kept m) }
 {
-    let z1 = m.z1 as i32;
+    let z1 = i32::from(m.z1);
     let centre = z1 * 32768;
-    within(-16384, 16380, z1) && within(centre - 536740337, centre + 536871409, m.l_z2)
+    (-16384..=16380).contains(&z1) && (centre - 536740337..=centre + 536871409).contains(&m.l_z2)
 }
 
 // 4.2.1: so[k] of a sample; its low 3 bits are ignored.
@@ -61,21 +54,21 @@ fn rounded(l_z2: i32) -> i16
     ((l_z2 + 16384) >> 15) as i16
 }
 
-// 4.2.1, 4.2.2: from samples to sof.
+// 4.2.1, 4.2.2: from samples to sof. The writes go by index: of a slice that is written through `iter_mut().zip(..)` a
+// proof knows only the length afterwards.
 pub fn offset(m: Kept, sop: &[i16], sof: &mut [i16]) -> Kept
     requires { (length sof.old ≡ length sop.now) × (sound_offset (kept m) ≡ true) }
     ensures state { kept result ≡ (run offset (kept m) (downscaled sop.now)).0 }
     ensures samples { sof.new ≡ (run offset (kept m) (downscaled sop.now)).1 }
 {
-    let mut z1 = m.z1;
-    let mut l_z2 = m.l_z2;
-    for k in 0..sop.len() {
-        let so = downscale(sop[k]);
-        l_z2 = recursive(l_z2, so as i32 - z1 as i32);
+    let Kept { mut z1, mut l_z2 } = m;
+    for (k, &x) in sop.iter().enumerate() {
+        let so = downscale(x);
+        l_z2 = recursive(l_z2, i32::from(so) - i32::from(z1));
         z1 = so;
         sof[k] = rounded(l_z2);
     }
-    Kept { z1: z1, l_z2: l_z2 }
+    Kept { z1, l_z2 }
 }
 
 // 4.2.3: from sof to s. No output is fed back, so the compiler can compute several samples at once.
@@ -85,8 +78,7 @@ pub fn emphasis(mp: i16, sof: &[i16], s: &mut [i16]) -> i16
     ensures samples { s.new ≡ (run emphasis mp sof.now).1 }
 {
     let mut last = mp;
-    for k in 0..sof.len() {
-        let now = sof[k];
+    for (k, &now) in sof.iter().enumerate() {
         s[k] = op_words::add(now, op_words::mult_r(last, -28180));
         last = now;
     }

@@ -27,15 +27,10 @@ pub fn inverse(xmaxc: i16, xmc: [i16; 13]) -> [i16; 13]
     ensures { result ≡ xMp (amplitude xmaxc) xmc }
 {
     let a = rpe_quantise::exp_and_mant(xmaxc);
-    let mant = a.mant as usize;
-    let temp1 = op_tables::mantissa_fac(mant);
+    let temp1 = op_tables::mantissa_fac(a.mant as usize);
     let temp2 = 6 - a.exp;
     let temp3 = op_shifts::shl(1, temp2 - 1);
-    let mut xmp = [0i16; 13];
-    for i in 0..13usize {
-        xmp[i] = pulse(temp1, temp2, temp3, xmc[i]);
-    }
-    xmp
+    std::array::from_fn(|i| pulse(temp1, temp2, temp3, xmc[i]))
 }
 
 // 4.2.17: each pulse at its grid position, zeros between.
@@ -44,8 +39,8 @@ pub fn positioned(mc: usize, xmp: [i16; 13]) -> [i16; 40]
     ensures { result ≡ ep mc xmp }
 {
     let mut ep = [0i16; 40];
-    for i in 0..13usize {
-        ep[mc + 3 * i] = xmp[i];
+    for (i, &pulse) in xmp.iter().enumerate() {
+        ep[mc + 3 * i] = pulse;
     }
     ep
 }

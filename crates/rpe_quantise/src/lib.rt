@@ -12,25 +12,11 @@ ghost use Rattle.standard.specs.House.{fit};
 ghost use Rattle.standard.specs.Rpe.{exponent, xmaxc, amplitude, xMc};
 ghost use Rattle.rpe_quantise.specs.Counts.{Count};
 
-// The exponent of the block amplitude xmax: how often xmax >> 9 is halved until it is 0, at most 6 times.
+// The exponent of the block amplitude xmax: how often xmax >> 9 is halved until it is 0. That is its number of bits.
 fn exponent(xmax: i16) -> i16
     ensures { result ≡ pos (exponent xmax) }
 {
-    if xmax < 512 {
-        0
-    } else if xmax < 1024 {
-        1
-    } else if xmax < 2048 {
-        2
-    } else if xmax < 4096 {
-        3
-    } else if xmax < 8192 {
-        4
-    } else if xmax < 16384 {
-        5
-    } else {
-        6
-    }
+    16 - (xmax.max(0) >> 9).leading_zeros() as i16
 }
 
 // The code of the block amplitude.
@@ -48,21 +34,12 @@ pub struct Amplitude {
     pub mant: i16,
 }
 
-// How often a mantissa plus 1 is doubled until it is above 8.
+// How often a mantissa plus 1 is doubled until it is above 8: 4 less the mantissa's number of bits.
 fn doublings(mant: i16) -> i16
+    requires { Count mant }
     ensures { result ≡ pos (first (λ n. leb 9 (suc (P mant) * 2 ^ n)) 4 0) }
 {
-    if mant < 1 {
-        4
-    } else if mant < 2 {
-        3
-    } else if mant < 4 {
-        2
-    } else if mant < 8 {
-        1
-    } else {
-        0
-    }
+    mant.leading_zeros() as i16 - 12
 }
 
 // The exponent and the mantissa of a block amplitude's code, as both ends decode it.
@@ -96,11 +73,6 @@ pub fn pulse_codes(code: i16, xm: [i16; 13]) -> [i16; 13]
 {
     let a = exp_and_mant(code);
     let temp1 = 6 - a.exp;
-    let mant = a.mant as usize;
-    let temp2 = op_tables::mantissa_nrfac(mant);
-    let mut xmc = [0i16; 13];
-    for i in 0..13usize {
-        xmc[i] = pulse_code(temp1, temp2, xm[i]);
-    }
-    xmc
+    let temp2 = op_tables::mantissa_nrfac(a.mant as usize);
+    std::array::from_fn(|i| pulse_code(temp1, temp2, xm[i]))
 }

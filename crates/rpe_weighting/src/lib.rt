@@ -15,9 +15,7 @@ fn surrounded(e: [i16; 40]) -> [i16; 50]
     ensures { result ≡ replicate 5 (pos 0) ++ (e ++ replicate 5 (pos 0)) }
 {
     let mut wt = [0i16; 50];
-    for k in 0..40usize {
-        wt[5 + k] = e[k];
-    }
+    wt[5..45].copy_from_slice(&e);
     wt
 }
 
@@ -47,11 +45,7 @@ pub fn weighted(e: [i16; 40]) -> [i16; 40]
     ensures { result ≡ weighted e }
 {
     let wt = surrounded(e);
-    let mut x = [0i16; 40];
-    for k in 0..40usize {
-        x[k] = filtered(&wt[k..k + 11]);
-    }
-    x
+    std::array::from_fn(|k| filtered(&wt[k..k + 11]))
 }
 
 // 4.2.14: every third sample, from m on.
@@ -59,11 +53,7 @@ pub fn grid(m: usize, x: [i16; 40]) -> [i16; 13]
     requires { m ≤ 3 }
     ensures { result ≡ grid m x }
 {
-    let mut xm = [0i16; 13];
-    for i in 0..13usize {
-        xm[i] = x[m + 3 * i];
-    }
-    xm
+    std::array::from_fn(|i| x[m + 3 * i])
 }
 
 // 4.2.14: the square of each sample, after a shift right by 2. The four energies are sums of these.
@@ -71,42 +61,28 @@ fn squares(x: [i16; 40]) -> [i32; 40]
     ensures is { result ≡ squared x }
     ensures small { every (at_most 67108864) result ≡ true }
 {
-    let mut q = [0i32; 40];
-    for k in 0..40usize {
+    std::array::from_fn(|k| {
         let t = (x[k] >> 2) as i32;
-        q[k] = t * t;
-    }
-    q
+        t * t
+    })
 }
 
-// The sums of the squares on grids 0, 1 and 2.
-#[derive(Clone, Copy)]
-struct Energies {
-    first: i32,
-    second: i32,
-    third: i32,
-}
-
-// Thirteen squares fit 32 bits, so these are plain additions.
-fn totals(q: [i32; 40]) -> Energies
+// The sums of the squares on grids 0, 1 and 2. Thirteen squares fit 32 bits, so these are plain additions.
+fn totals(q: [i32; 40]) -> (i32, i32, i32)
     requires { every (at_most 67108864) q ≡ true }
-    ensures first { result.first ≡ total 0 q }
-    ensures second { result.second ≡ total 1 q }
-    ensures third { result.third ≡ total 2 q }
+    ensures first { result.0 ≡ total 0 q }
+    ensures second { result.1 ≡ total 1 q }
+    ensures third { result.2 ≡ total 2 q }
 {
-    let mut first = 0i32;
-    let mut second = 0i32;
-    let mut third = 0i32;
-    for n in 0..13usize {
-        first = first + q[3 * n];
-        second = second + q[3 * n + 1];
-        third = third + q[3 * n + 2];
+    let mut first = 0;
+    let mut second = 0;
+    let mut third = 0;
+    for n in 0..13 {
+        first += q[3 * n];
+        second += q[3 * n + 1];
+        third += q[3 * n + 2];
     }
-    Energies {
-        first: first,
-        second: second,
-        third: third,
-    }
+    (first, second, third)
 }
 
 // 4.2.14: the grid of the greatest energy. Grid 3 is grid 0 without its first sample and with sample 39.
@@ -115,12 +91,11 @@ pub fn mc(x: [i16; 40]) -> usize
     ensures { result ≡ Mc x }
 {
     let q = squares(x);
-    let e = totals(q);
-    let fourth = e.first - q[0] + q[39];
-    let none = Found { at: 0, sum: 0 };
-    let a = op_sums::better(none, 0, e.first + e.first);
-    let b = op_sums::better(a, 1, e.second + e.second);
-    let c = op_sums::better(b, 2, e.third + e.third);
-    let found = op_sums::better(c, 3, fourth + fourth);
+    let (first, second, third) = totals(q);
+    let energies = [first, second, third, first - q[0] + q[39]];
+    let mut found = Found { at: 0, sum: 0 };
+    for (m, &energy) in energies.iter().enumerate() {
+        found = op_sums::better(found, m, energy + energy);
+    }
     found.at
 }

@@ -1,7 +1,7 @@
 -- 4.2.10, section by section: what one section gives over all samples, and the elements of it.
-use Rattle.std.specs.Prelude.{ℕ, suc, ◌<◌, ◌≡◌, refl, Bool, true, ℤ, pos, length, take, replicate}
+use Rattle.std.specs.Prelude.{ℕ, suc, ◌<◌, ◌≡◌, refl, Bool, true, ℤ, pos, length, take, get_or, replicate}
 use Rattle.std.proofs.Common.{ap, ◌∙◌, arith, length-take}
-use mathlib.Core.List.{List, ◌∷◌, ◌++◌, zip_with}
+use mathlib.Core.List.{List, [], ◌∷◌, ◌++◌, zip_with}
 use Rattle.math_lists.specs.Tab.{zip_length, zip_at}
 use Rattle.math_lists.specs.Every.{every, every_append, every_replicate}
 use Rattle.math_lists.specs.Parts.{lent_four, four}
@@ -15,6 +15,10 @@ spread a b c d = replicate 13 a ++ (replicate 14 b ++ (replicate 13 c ++ replica
 -- section i's, from the coefficients of the four stretches
 abbrev pub own : List ℤ → List ℤ → List ℤ → List ℤ → ℕ → List ℤ
 own first second third fourth i = spread (first at i) (second at i) (third at i) (fourth at i)
+
+-- the same, from the four in a list
+abbrev pub own_of : List (List ℤ) → ℕ → List ℤ
+own_of rows = own (get_or rows 0 []) (get_or rows 1 []) (get_or rows 2 []) (get_or rows 3 [])
 
 -- di after a section, from its coefficient, its cell and di at each sample
 abbrev pub further : List ℤ → List ℤ → List ℤ → List ℤ

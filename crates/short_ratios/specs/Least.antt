@@ -2,7 +2,7 @@
 use Rattle.std.specs.Prelude.{◌+◌, ◌/◌, min, ◌≡◌, true, false, cond, ℤ, pos, ◌+ℤ◌, ◌*ℤ◌}
 use Rattle.std.proofs.Common.{arith, SFits}
 use Rattle.std.specs.Int.Signed.{lt_z, le_z}
-use Rattle.std.specs.Int.{w16}
+use Rattle.std.specs.Int.{w16, int_min}
 use Rattle.math_integers.specs.Halves.{P, N, zar, apart}
 use Rattle.math_integers.specs.Sums.{add_is, scale_is, shr_is}
 use Rattle.math_lists.specs.First.{by_cond}
@@ -14,6 +14,12 @@ use Rattle.law_arithmetic.specs.Shift.{keep_plain}
 -- the smaller of two
 abbrev pub lesser : ℤ → ℤ → ℤ
 lesser a b = cond (lt_z a b) a b
+
+-- as the library's minimum has it, which takes the first of two equal ones
+pub min_is : (a b : ℤ) → int_min a b ≡ lesser a b
+min_is a b =
+    by_cond (λ z. int_min a b ≡ z) (lt_z a b) (λ h. let g : lt_z b a ≡ false = omega zar in rw g)
+    (λ h. by_cond (λ z. z ≡ b) (lt_z b a) (λ g _. b) (λ g. omega zar))
 
 -- the three lines
 abbrev steep : ℤ → ℤ

@@ -9,7 +9,6 @@ ghost use Rattle.standard.specs.ShortTerm.{LARpp, ratios, from_ratio, rp};
 ghost use Rattle.short_ratios.specs.Stretches.{LARp, rps};
 ghost use Rattle.law_arithmetic.specs.Within.{word};
 ghost use Rattle.short_ratios.specs.Bounds.{factor};
-ghost use Rattle.short_ratios.specs.Least.{lesser};
 
 // 4.2.8: LARpp[i + 1].
 fn larpp(i: usize, larc: i16) -> i16
@@ -27,34 +26,21 @@ fn larpp(i: usize, larc: i16) -> i16
 pub fn ratios(larc: [i16; 8]) -> [i16; 8]
     ensures { result ≡ ratios larc }
 {
-    let mut larpp_all = [0i16; 8];
-    for i in 0..8usize {
-        larpp_all[i] = larpp(i, larc[i]);
-    }
-    larpp_all
+    std::array::from_fn(|i| larpp(i, larc[i]))
 }
 
 // 4.2.9.1: a ratio interpolated between the last frame's and this one's. The stretches j from 0 to 3 are samples 0 to
-// 12, 13 to 26, 27 to 39 and 40 to 159.
+// 12, 13 to 26, 27 to 39 and 40 to 159. j stays a number: it is the place of a stretch in the standard's list, and the
+// promise names it (`LARp j`, `rps j`).
 fn larp(j: usize, old: i16, new: i16) -> i16
     ensures { result ≡ LARp j old new }
 {
-    if j == 0 {
-        op_words::add(op_words::add(old >> 2, new >> 2), old >> 1)
-    } else if j == 1 {
-        op_words::add(old >> 1, new >> 1)
-    } else if j == 2 {
-        op_words::add(op_words::add(old >> 2, new >> 2), new >> 1)
-    } else {
-        new
+    match j {
+        0 => op_words::add(op_words::add(old >> 2, new >> 2), old >> 1),
+        1 => op_words::add(old >> 1, new >> 1),
+        2 => op_words::add(op_words::add(old >> 2, new >> 2), new >> 1),
+        _ => new,
     }
-}
-
-// The smaller of two words.
-fn lesser(a: i16, b: i16) -> i16
-    ensures { result ≡ lesser a b }
-{
-    if a < b { a } else { b }
 }
 
 // 4.2.9.2: the piecewise line, for a number that is not negative. It is the least of its three lines (`least_is`,
@@ -63,13 +49,13 @@ fn from_ratio(size: i16) -> i16
     requires { le_z (pos 0) size ≡ true }
     ensures { result ≡ from_ratio size }
 {
-    lesser(
-        lesser(op_words::add(size, size), op_words::add(size, 11059)),
-        op_words::add(size >> 2, 26112),
-    )
+    op_words::add(size, size)
+        .min(op_words::add(size, 11059))
+        .min(op_words::add(size >> 2, 26112))
 }
 
-// 4.2.9.2: rp[i] of LARp[i].
+// 4.2.9.2: rp[i] of LARp[i]. The function of 4.2.6 has this shape too; one that took the line as a closure would be no
+// shorter.
 fn rp(larp: i16) -> i16
     ensures { result ≡ rp larp }
 {
@@ -85,11 +71,7 @@ fn rp(larp: i16) -> i16
 pub fn coefficients(j: usize, old: [i16; 8], new: [i16; 8]) -> [i16; 8]
     ensures { result ≡ rps j old new }
 {
-    let mut rps = [0i16; 8];
-    for i in 0..8usize {
-        rps[i] = rp(larp(j, old[i], new[i]));
-    }
-    rps
+    std::array::from_fn(|i| rp(larp(j, old[i], new[i])))
 }
 
 // 4.2.10, 4.3.4: mult_r of a coefficient and a word, both held in 32 bits. The coefficient is not -32768 (`rps_above`,

@@ -214,3 +214,8 @@ low_passed a {o = o} {mr = mr} {mv = mv} er ev p =
     let t = mult_r mr o in
     let f : lifted a ≡ true = rw p.above (word_yes (add (low mv) t) (plus_fits w16 (low mv) t)) in
     rw (lifted_back a f, ← er, ← ev) p
+
+-- the same where what went through a local is sri
+pub low_entered : (s : ℤ) {r v o a mr mv : ℤ} → mr ≡ r → mv ≡ v → lifted s ≡ true
+    → Passed mr (low mv) (low (mem w32 s)) o a → Passed r (low v) (low s) o a
+low_entered s er ev h p = rw (er, ev, lifted_back s h) at p

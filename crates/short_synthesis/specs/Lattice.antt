@@ -1,5 +1,5 @@
 -- The lattice on eight named cells: what its functions ask and promise, and that plain sums which are words are those of 4.3.4.
-use Rattle.std.specs.Prelude.{◌≡◌, refl, Bool, true, ℤ, pos, ◌+ℤ◌, ◌-ℤ◌, length}
+use Rattle.std.specs.Prelude.{◌≡◌, refl, Bool, true, ℕ, ℤ, pos, ◌+ℤ◌, ◌-ℤ◌, length, get_or}
 use Rattle.std.proofs.Common.{sym, ◌∙◌, SFits}
 use Rattle.std.proofs.Math.Path.{ap}
 use mathlib.Core.List.{List, [], ◌∷◌, zip, zip_with}
@@ -16,6 +16,7 @@ use Rattle.law_arithmetic.specs.Clip.{plus_plain, minus_plain, plus_fits, minus_
 use Rattle.law_arithmetic.specs.Within.{word, word_is, word_yes}
 use Rattle.short_ratios.specs.Bounds.{factor, factor_is}
 use Rattle.short_synthesis.specs.declared.Line.{Line}
+use Rattle.short_synthesis.specs.declared.Section.{Section}
 use Rattle.short_synthesis.specs.Speech.{sounded, synthesised_words}
 
 -- the eight as a list
@@ -36,6 +37,21 @@ lined f l =
       v7 = f l.v7;
     }
 
+-- the cells that seven sections leave: the last sri, and the cell above each
+abbrev pub shifted : List Section → Line
+shifted s =
+    let nth = λ (k : ℕ). get_or s k (record { out = pos 0; above = pos 0 }) in
+    record {
+      v0 = (nth 0).out;
+      v1 = (nth 0).above;
+      v2 = (nth 1).above;
+      v3 = (nth 2).above;
+      v4 = (nth 3).above;
+      v5 = (nth 4).above;
+      v6 = (nth 5).above;
+      v7 = (nth 6).above;
+    }
+
 -- what holds of each of the eight
 pub record All (Q : ℤ → Type 0) (l : Line) : Type 0 where
   pub v0 : Q l.v0
@@ -46,6 +62,17 @@ pub record All (Q : ℤ → Type 0) (l : Line) : Type 0 where
   pub v5 : Q l.v5
   pub v6 : Q l.v6
   pub v7 : Q l.v7
+
+-- what holds between each of the eight and the one that stands there in m
+pub record Mapped (R : ℤ → ℤ → Type 0) (l m : Line) : Type 0 where
+  pub v0 : R l.v0 m.v0
+  pub v1 : R l.v1 m.v1
+  pub v2 : R l.v2 m.v2
+  pub v3 : R l.v3 m.v3
+  pub v4 : R l.v4 m.v4
+  pub v5 : R l.v5 m.v5
+  pub v6 : R l.v6 m.v6
+  pub v7 : R l.v7 m.v7
 
 -- a test that each of them passes
 abbrev pub Each : (ℤ → Bool) → Line → Type 0
@@ -82,6 +109,23 @@ lined_same f g k l h =
       k l.v6 h.v6,
       k l.v7 h.v7,
     )
+
+-- where what is known of each gives g of it, m is the eight of g
+pub mapped : {Q : ℤ → Type 0} {R : ℤ → ℤ → Type 0} (g : ℤ → ℤ) → ((z y : ℤ) → Q z → R z y → y ≡ g z)
+    → (l m : Line) → All Q l → Mapped R l m → m ≡ lined g l
+mapped g k l m h r =
+    let e : lined g l ≡ m =
+    rw (
+      ← k l.v0 m.v0 h.v0 r.v0,
+      ← k l.v1 m.v1 h.v1 r.v1,
+      ← k l.v2 m.v2 h.v2 r.v2,
+      ← k l.v3 m.v3 h.v3 r.v3,
+      ← k l.v4 m.v4 h.v4 r.v4,
+      ← k l.v5 m.v5 h.v5 r.v5,
+      ← k l.v6 m.v6 h.v6 r.v6,
+      ← k l.v7 m.v7 h.v7 r.v7,
+    ) in
+    sym e
 
 -- ---- the eight of a list
 
@@ -143,7 +187,15 @@ passed_word {r} {v} {s} {o} p =
     let w : word o ≡ true = rw p.out (word_yes (sub s (mult_r r v)) (minus_fits w16 s (mult_r r v))) in
     rw (word_back o w) w
 
--- through locals, which give back r, v and sri as mr, mv and ms, and then o and a
+-- a local gives it back
+pub passed_back : {r v s o a : ℤ} → Passed r v s o a → mem w32 o ≡ o
+passed_back {r} {v} {s} p = rw p.out (back {w = w32} (wide (minus_fits w16 s (mult_r r v)) tt))
+
+-- through locals, which give back r, v and sri as mr, mv and ms
+pub passed_by : {r v s mr mv ms o a : ℤ} → mr ≡ r → mv ≡ v → ms ≡ s → Passed mr mv ms o a → Passed r v s o a
+passed_by er ev es p = rw (← er, ← ev, ← es) p
+
+-- and then o and a too
 pub passed : {r v s mr mv ms o a : ℤ} → mr ≡ r → mv ≡ v → ms ≡ s → Passed mr mv ms o a → Passed r v s (mem w32 o) (mem w32 a)
 passed {mr = mr} {mv = mv} {ms = ms} {o = o} {a = a} er ev es p =
     let eo : mem w32 o ≡ o = rw p.out (back {w = w32} (wide (minus_fits w16 ms (mult_r mr mv)) tt)) in

@@ -4,7 +4,7 @@
 // is computed again with the sums of 4.3.4, which saturate.
 #![tactic(auto)]
 
-ghost use Rattle.std.specs.Prelude.{◌≡◌, true, ◌+◌, ◌+ℤ◌, ◌-ℤ◌, length};
+ghost use Rattle.std.specs.Prelude.{◌≡◌, true, ◌+ℤ◌, ◌-ℤ◌, length, List, IfSome};
 ghost use Rattle.std.specs.Int.{w16};
 ghost use Rattle.math_lists.specs.Every.{every};
 ghost use Rattle.standard.specs.Arithmetic.{clip, add, sub, mult_r};
@@ -12,10 +12,11 @@ ghost use Rattle.standard.specs.Decoder.{synthesised, de_emphasis, srop};
 ghost use Rattle.law_arithmetic.specs.Within.{word};
 ghost use Rattle.short_ratios.specs.Bounds.{factor};
 ghost use Rattle.short_synthesis.specs.Speech.{spoken};
-ghost use Rattle.short_synthesis.specs.Lattice.{cells, lined, Each, Passed};
+ghost use Rattle.short_synthesis.specs.Lattice.{cells, lined, All, Mapped, Each, Passed, shifted};
 ghost use Rattle.short_synthesis.specs.Biased.{low, lifted, base, offset};
 
-// Eight cells v[0..7], or the eight coefficients that go with them. As fields they stay in the machine's registers.
+// Eight cells v[0..7], or the eight coefficients that go with them. Fields and not an
+// array: the laws of the lattice (specs/Lattice) name each of them.
 #[derive(Clone, Copy)]
 struct Line {
     v0: i32,
@@ -28,7 +29,26 @@ struct Line {
     v7: i32,
 }
 
-// An array of eight as a `Line`.
+impl Line {
+    // f of each of the eight.
+    fn map<F: Fn(i32) -> i32>(self, f: F) -> Line
+        requires { All (F.pre f) self }
+        ensures { Mapped (F.post f) self result }
+    {
+        Line {
+            v0: f(self.v0),
+            v1: f(self.v1),
+            v2: f(self.v2),
+            v3: f(self.v3),
+            v4: f(self.v4),
+            v5: f(self.v5),
+            v6: f(self.v6),
+            v7: f(self.v7),
+        }
+    }
+}
+
+// An array of eight as a `Line`. `Line::map` does not serve: the type changes.
 fn spread(a: [i16; 8]) -> Line
     ensures cells { cells result ≡ a }
     ensures words { Each word result }
@@ -82,13 +102,7 @@ fn raised(rrp: i32, v: i32, sri: i32) -> i32
 fn clipped(z: i32) -> i32
     ensures { result ≡ clip w16 z }
 {
-    if z < -32768 {
-        -32768
-    } else if 32767 < z {
-        32767
-    } else {
-        z
-    }
+    z.clamp(-32768, 32767)
 }
 
 // A section: sri after it, and the cell above its own.
@@ -105,8 +119,24 @@ fn through(rrp: i32, v: i32, sri: i32) -> Section
 {
     let out = clipped(lowered(rrp, v, sri));
     Section {
-        out: out,
+        out,
         above: clipped(raised(rrp, v, out)),
+    }
+}
+
+// The cells after a sample: the last sri, and the cell above each section but the eighth, above which none is kept.
+fn shifted(s: [Section; 7]) -> Line
+    ensures { result ≡ shifted s }
+{
+    Line {
+        v0: s[0].out,
+        v1: s[0].above,
+        v2: s[1].above,
+        v3: s[2].above,
+        v4: s[3].above,
+        v5: s[4].above,
+        v6: s[5].above,
+        v7: s[6].above,
     }
 }
 
@@ -123,16 +153,7 @@ fn limited(r: Line, v: Line, wt: i32) -> Line
     let s2 = through(r.v2, v.v2, s3.out);
     let s1 = through(r.v1, v.v1, s2.out);
     let s0 = through(r.v0, v.v0, s1.out);
-    Line {
-        v0: s0.out,
-        v1: s0.above,
-        v2: s1.above,
-        v3: s2.above,
-        v4: s3.above,
-        v5: s4.above,
-        v6: s5.above,
-        v7: s6.above,
-    }
+    shifted([s0, s1, s2, s3, s4, s5, s6])
 }
 
 // ---- The fast way. Its cells and sri are kept with 32768 added (the bias), so that one test says of a sum that it
@@ -142,7 +163,7 @@ fn limited(r: Line, v: Line, wt: i32) -> Line
 fn is_lifted(z: i32) -> bool
     ensures { result ≡ lifted z }
 {
-    0 <= z && z <= 65535
+    (0..=65535).contains(&z)
 }
 
 // What takes the bias out of a product and adds the rounding term: r * (v + 32768) + offset is r * v + 16384
@@ -159,16 +180,7 @@ fn offsets(r: Line) -> Line
     requires { Each factor r }
     ensures { result ≡ lined offset r }
 {
-    Line {
-        v0: offset(r.v0),
-        v1: offset(r.v1),
-        v2: offset(r.v2),
-        v3: offset(r.v3),
-        v4: offset(r.v4),
-        v5: offset(r.v5),
-        v6: offset(r.v6),
-        v7: offset(r.v7),
-    }
+    r.map(offset)
 }
 
 // Eight words with the bias.
@@ -176,16 +188,7 @@ fn with_bias(l: Line) -> Line
     requires { Each word l }
     ensures { base result ≡ l }
 {
-    Line {
-        v0: l.v0 + 32768,
-        v1: l.v1 + 32768,
-        v2: l.v2 + 32768,
-        v3: l.v3 + 32768,
-        v4: l.v4 + 32768,
-        v5: l.v5 + 32768,
-        v6: l.v6 + 32768,
-        v7: l.v7 + 32768,
-    }
+    l.map(|z| z + 32768)
 }
 
 // Eight words without it.
@@ -193,16 +196,7 @@ fn without_bias(l: Line) -> Line
     requires { Each word (base l) }
     ensures { result ≡ base l }
 {
-    Line {
-        v0: l.v0 - 32768,
-        v1: l.v1 - 32768,
-        v2: l.v2 - 32768,
-        v3: l.v3 - 32768,
-        v4: l.v4 - 32768,
-        v5: l.v5 - 32768,
-        v6: l.v6 - 32768,
-        v7: l.v7 - 32768,
-    }
+    l.map(|z| z - 32768)
 }
 
 // mult_r of a coefficient and the word that a cell stands for.
@@ -239,112 +233,47 @@ fn entering(rrp: i32, c: i32, v: i32, wt: i32) -> i32
     wt - ((rrp * v + (c - 1073741824)) >> 15)
 }
 
-// A section by plain sums: sri after it, the cell above its own, and whether every sum so far is a word. If so, no sum
-// would have saturated, and this is the section as 4.3.4 has it (`Passed`).
-#[derive(Clone, Copy)]
-struct Attempt {
-    out: i32,
-    above: i32,
-    fits: bool,
-}
-
-// The eighth section comes first. No cell above it is kept.
-fn entered(rrp: i32, c: i32, v: i32, wt: i32) -> Attempt
+// sri after the eighth section, by a plain sum. No cell above it is kept. None if it is not a word.
+fn entered(rrp: i32, c: i32, v: i32, wt: i32) -> Option<i32>
     requires { (factor rrp ≡ true) × (c ≡ offset rrp) × (lifted v ≡ true) × (lifted wt ≡ true) }
-    ensures out { lifted result.out ≡ true }
-    ensures fits { result.fits ≡ true → low result.out ≡ sub (low wt) (mult_r rrp (low v)) }
+    ensures { IfSome result (λ out. (lifted out ≡ true) × (low out ≡ sub (low wt) (mult_r rrp (low v)))) }
 {
     let out = entering(rrp, c, v, wt - 32768);
-    if !is_lifted(out) {
-        return Attempt {
-            out: wt,
-            above: wt,
-            fits: false,
-        };
-    }
-    Attempt {
-        out: out,
-        above: out,
-        fits: true,
-    }
+    if is_lifted(out) { Some(out) } else { None }
 }
 
-// Each of the others goes on from the one before. After one that did not fit nothing is computed: the compiler makes
-// this a jump to the slow way.
-fn tried(rrp: i32, c: i32, v: i32, sri: Attempt) -> Attempt
-    requires { (factor rrp ≡ true) × (c ≡ offset rrp) × (lifted v ≡ true) × (lifted sri.out ≡ true) }
-    ensures out { lifted result.out ≡ true }
-    ensures fits { result.fits ≡ true → (sri.fits ≡ true)
-        × Passed rrp (low v) (low sri.out) (low result.out) (low result.above) }
+// Each of the others by plain sums. If both are words, none would have saturated, and this is the section as 4.3.4 has
+// it (`Passed`). Else None, after which nothing is computed: the compiler makes this a jump to the slow way.
+fn tried(rrp: i32, c: i32, v: i32, sri: i32) -> Option<Section>
+    requires { (factor rrp ≡ true) × (c ≡ offset rrp) × (lifted v ≡ true) × (lifted sri ≡ true) }
+    ensures { IfSome result (λ s. (lifted s.out ≡ true) × Passed rrp (low v) (low sri) (low s.out) (low s.above)) }
 {
-    if !sri.fits {
-        return sri;
-    }
-    let out = fallen(rrp, c, v, sri.out);
+    let out = fallen(rrp, c, v, sri);
     if !is_lifted(out) {
-        return Attempt {
-            out: sri.out,
-            above: v,
-            fits: false,
-        };
+        return None;
     }
     let above = risen(rrp, c, v, out);
-    Attempt {
-        out: out,
-        above: above,
-        fits: is_lifted(above),
+    if is_lifted(above) {
+        Some(Section { out, above })
+    } else {
+        None
     }
 }
 
 // One sample by plain sums: the cells after it, where every section fits.
-#[derive(Clone, Copy)]
-struct Sample {
-    line: Line,
-    fits: bool,
-}
-
-// The eight sections by plain sums.
-fn plain(r: Line, c: Line, v: Line, wt: i32) -> Sample
+fn plain(r: Line, c: Line, v: Line, wt: i32) -> Option<Line>
     requires { Each factor r × (c ≡ lined offset r) × Each word (base v) × (lifted wt ≡ true) }
-    ensures { result.fits ≡ true → cells (base result.line) ≡ (synthesised (cells (base v)) (cells r, low wt)).0 }
+    ensures { IfSome result (λ l. cells (base l) ≡ (synthesised (cells (base v)) (cells r, low wt)).0) }
 {
-    let s7 = entered(r.v7, c.v7, v.v7, wt);
-    let s6 = tried(r.v6, c.v6, v.v6, s7);
-    let s5 = tried(r.v5, c.v5, v.v5, s6);
-    let s4 = tried(r.v4, c.v4, v.v4, s5);
-    let s3 = tried(r.v3, c.v3, v.v3, s4);
-    let s2 = tried(r.v2, c.v2, v.v2, s3);
-    let s1 = tried(r.v1, c.v1, v.v1, s2);
-    let s0 = tried(r.v0, c.v0, v.v0, s1);
-    Sample {
-        line: Line {
-            v0: s0.out,
-            v1: s0.above,
-            v2: s1.above,
-            v3: s2.above,
-            v4: s3.above,
-            v5: s4.above,
-            v6: s5.above,
-            v7: s6.above,
-        },
-        fits: s0.fits,
-    }
-}
-
-// A copy. The slow way takes and returns copies, so that the cells themselves stay in registers.
-fn same(l: Line) -> Line
-    ensures { result ≡ l }
-{
-    Line {
-        v0: l.v0,
-        v1: l.v1,
-        v2: l.v2,
-        v3: l.v3,
-        v4: l.v4,
-        v5: l.v5,
-        v6: l.v6,
-        v7: l.v7,
-    }
+    let s7 = entered(r.v7, c.v7, v.v7, wt)?;
+    let s6 = tried(r.v6, c.v6, v.v6, s7)?;
+    let s5 = tried(r.v5, c.v5, v.v5, s6.out)?;
+    let s4 = tried(r.v4, c.v4, v.v4, s5.out)?;
+    let s3 = tried(r.v3, c.v3, v.v3, s4.out)?;
+    let s2 = tried(r.v2, c.v2, v.v2, s3.out)?;
+    let s1 = tried(r.v1, c.v1, v.v1, s2.out)?;
+    let s0 = tried(r.v0, c.v0, v.v0, s1.out)?;
+    Some(shifted([s0, s1, s2, s3, s4, s5, s6]))
 }
 
 // 4.3.4: one sample through the eight sections. v0 of what it gives is also sr[k].
@@ -352,13 +281,10 @@ fn lattice(r: Line, c: Line, v: Line, wt: i32) -> Line
     requires { Each factor r × (c ≡ lined offset r) × Each word (base v) × (lifted wt ≡ true) }
     ensures { cells (base result) ≡ (synthesised (cells (base v)) (cells r, low wt)).0 }
 {
-    let p = plain(r, c, v, wt);
-    if p.fits {
-        let l = p.line;
-        return same(l);
+    match plain(r, c, v, wt) {
+        Some(line) => line,
+        None => with_bias(limited(r, without_bias(v), wt - 32768)),
     }
-    let z = limited(same(r), without_bias(v), wt - 32768);
-    with_bias(z)
 }
 
 // 4.3.5: sro[k], which is also the next msr. The number subtracted is 32768 * 32768 minus the rounding term. After the
@@ -386,25 +312,25 @@ pub struct Cells {
 
 // A stretch of samples that have the same coefficients. The doubling of a sample does not depend on the sample before.
 // So it is a loop of its own, for which the compiler makes vector code (`voiced_is`, specs/Speech: the doubling can be
-// done last).
+// done last). The first loop has an index for srop: the check knows nothing of what is written through a `zip` of an
+// `iter_mut`.
 pub fn stretch(s: Cells, rrp: [i16; 8], wt: &[i16], srop: &mut [i16]) -> Cells
     requires { (length srop.old ≡ length wt.now) × (every factor rrp ≡ true) }
     ensures v { result.v ≡ (spoken s.v s.msr rrp wt.now).0.0 }
     ensures msr { result.msr ≡ (spoken s.v s.msr rrp wt.now).0.1 }
     ensures samples { srop.new ≡ (spoken s.v s.msr rrp wt.now).1 }
 {
-    let before = s.v;
     let rp = spread(rrp);
     let c = offsets(rp);
-    let mut v = with_bias(spread(before));
+    let mut v = with_bias(spread(s.v));
     let mut msr = s.msr as i32;
-    for k in 0..wt.len() {
-        v = lattice(rp, c, v, wt[k] as i32 + 32768);
+    for (k, &x) in wt.iter().enumerate() {
+        v = lattice(rp, c, v, x as i32 + 32768);
         msr = de_emphasis(msr, v.v0);
         srop[k] = msr as i16;
     }
-    for k in 0..srop.len() {
-        srop[k] = upscaled(srop[k]);
+    for out in srop.iter_mut() {
+        *out = upscaled(*out);
     }
     Cells {
         v: gathered(without_bias(v)),

@@ -1,61 +1,31 @@
--- Iteration k stores the gain times the sample at 120 − lag + k of the history, by mult_r. That is entry k of dpp, so after 40
--- iterations the array is dpp.
-use mathlib.Core.Path.{◌≡◌, refl, ap, ◌∙◌}
-use Prim.Native.Nat.{ℕ, ◌+◌, ◌-◌, ◌<◌}
+-- Call k gives the gain times sample k of those that the lag asks for, by mult_r, so the array is dpp.
+use mathlib.Core.Path.{◌≡◌, ap₂, ◌∙◌}
 use native.Mathlib.Omega.{arith}
+use Prim.Native.Nat.{◌-◌}
 use lib.IntN.{pos}
-use lib.ListN.{length, length-set, replicate}
+use lib.ListN.{length, take, drop}
 use mir.Syntax.{w16}
-use mir.Val.{SFits}
-use borrow.Author.Rules.{rules, sfits_of}
-use Rattle.math_integers.specs.Ranges.{back as local, res}
-use Rattle.math_lists.specs.Fill.{fill_next, fill_end}
-use Rattle.math_lists.specs.Tab.{map_at}
+use mir.Val.{SFits, to_z, of_z}
+use borrow.Author.Rules.{rules}
+use Rattle.math_integers.specs.Ranges.{back, res}
+use Rattle.math_lists.specs.Made.{made_map}
 use Rattle.standard.specs.Arithmetic.{mult_r}
 use Rattle.standard.specs.Tables.{◌at◌, QLB}
-use Rattle.standard.specs.LongTerm.{back, dpp}
-use Rattle.law_lengths.specs.Subframes.{Lag, back_length, dpp_length}
-use Rattle.law_loops.specs.Positions.{back_at}
+use Rattle.standard.specs.LongTerm.{back as lagged, dpp}
+use Rattle.law_lengths.specs.Subframes.{back_length}
 use Rattle.long_filter.proofs.estimate.Goals as goal
-use Rattle.long_filter.proofs.estimate.Goals.{Start}
-
-pub loop-k-init : goal.loop-k-init
-loop-k-init c = (search rules, refl, refl)
-
--- what is asked for: a history of 120 samples and a lag from 40 to 120
-lag : (c : Start) → Lag c.args.lag
-lag c = record { least = c.requires.1.0; most = c.requires.1.1 }
-
--- so the estimate is 40 samples
-forty : (c : Start) → length (dpp c.args.lag c.args.bc c.args.dp.now) ≡ 40
-forty c = dpp_length c.args.lag c.args.bc c.args.dp.now (lag c) c.requires.0
-
--- and entry k is the gain times the history's sample at 120 − lag + k
-entry : (c : Start) (k : ℕ) → k < 40
-    → dpp c.args.lag c.args.bc c.args.dp.now at k ≡ mult_r (QLB at c.args.bc) (c.args.dp.now at (120 - c.args.lag + k))
-unfolding dpp
-entry c k h =
-    let xs = c.args.dp.now in
-    let n = back_length c.args.lag xs (lag c) c.requires.0 in
-    let gain = mult_r (QLB at c.args.bc) in
-    map_at gain (back c.args.lag xs) k (pos 0) (pos 0) (omega arith) ∙ ap gain (back_at c.args.lag xs k h)
-
-pub loop-k-preserved : goal.loop-k-preserved
-loop-k-preserved c =
-    let k = c.before.before.before in
-    let s = k.before.before in
-    let i = k.loop-k.k in
-    let whole = dpp s.args.lag s.args.bc s.args.dp.now in
-    let f : SFits w16 (s.args.dp.now at (120 - s.args.lag + i)) = sfits_of c.mult_r-arg-1.given in (
-      search rules,
-      simp length-set k.loop-k.invariant.1,
-      fill_next whole (replicate 40 (pos 0)) i k.loop-k.invariant.2 (pos 0) (omega (arith, forty s)) (omega arith)
-          (cc (local f, res k.gain_qlb-b, res c.mult_r, entry s i (omega arith))),
-    )
 
 pub returns : goal.returns
+unfolding dpp lagged
 returns c =
-    let k = c.before in
-    let s = k.before.before in
-    fill_end (dpp s.args.lag s.args.bc s.args.dp.now) (replicate 40 (pos 0)) k.loop-k.k k.loop-k.invariant.2
-    (omega (arith, forty s)) (omega arith)
+    let dp = c.args.dp.now in
+    let from = take (160 - c.args.lag - (120 - c.args.lag)) (drop (120 - c.args.lag) dp) in
+    let n : length (lagged c.args.lag dp) ≡ 40 =
+    back_length c.args.lag dp (record { least = c.requires.1.0; most = c.requires.1.1 }) c.requires.0 in
+    let m : 160 - c.args.lag - (120 - c.args.lag) ≡ 40 = omega arith in
+    let e : from ≡ lagged c.args.lag dp = rw m in
+    rw (← e) (made_map c.from_fn.ensures.items (mult_r (QLB at c.args.bc)) from (pos 0) (pos 0) (rw e n)
+    (λ k b y q t.
+    let f : SFits w16 (from at k) = search rules in
+    let r : y ≡ mult_r (to_z w16 (of_z w16 c.gain_qlb-b.result)) (to_z w16 (of_z w16 (from at k))) = search rules in
+    (search rules, r ∙ ap₂ mult_r (res c.gain_qlb-b ∙ c.gain_qlb-b.ensures) (back f))))

@@ -4,8 +4,6 @@ use mathlib.Core.Path.{◌≡◌, ap, ap₂, ◌∙◌}
 use mathlib.Core.List.{List}
 use native.Mathlib.Omega.{arith}
 use lib.IntN.{ℤ, pos}
-use lib.ListN.{length, take}
-use lib.Seq.{take_all}
 use lib.Signed.{lt_z}
 use mir.Syntax.{w16, w32}
 use mir.Val.{SFits}
@@ -24,22 +22,13 @@ use Rattle.long_search.proofs.lag_and_gain.Goals.{After-lag_search-search, After
 scal-is : (c : After-scal-n) → mem w16 c.scal-n.result ≡ scal c.args.d.now
 scal-is c = res c.scal-n ∙ c.scal-n.ensures
 
--- wt, all 40 of it
-wt_is : (c : After-weighed-wt) → let d = c.args.d.now in take 40 c.weighed-wt.result ≡ scaled d
-wt_is c =
-    let n : length c.weighed-wt.result ≡ 40 = search rules in
-    take_all 40 c.weighed-wt.result (omega arith) ∙ rw (scal-is c.before) at c.weighed-wt.ensures.is
-
-pub lag_search-search-requires : goal.lag_search-search-requires
-lag_search-search-requires c =
-    let w = c in
-    let n : length w.weighed-wt.result ≡ 40 = search rules in
-    let e = take_all 40 w.weighed-wt.result (omega arith) in
-    ((rw e n, w.requires.1), rw e w.weighed-wt.ensures.small)
+-- wt
+wt_is : (c : After-weighed-wt) → c.weighed-wt.result ≡ scaled c.args.d.now
+wt_is c = rw (scal-is c.before) at c.weighed-wt.ensures.is
 
 -- what the search finds is the standard's
 found-is : (c : After-lag_search-search) →
-    best (correlated (take 40 c.weighed-wt.result) c.args.dp.now) ≡ lag_search c.args.d.now c.args.dp.now
+    best (correlated c.weighed-wt.result c.args.dp.now) ≡ lag_search c.args.d.now c.args.dp.now
 unfolding lag_search correlations
 found-is c = ap (λ (wt : List ℤ). best (correlated wt c.args.dp.now)) (wt_is c.before.before)
 
@@ -63,7 +52,7 @@ pub returns : goal.returns
 returns c =
     let l = (goal.at.returns c).After-lag_search-search in
     let e = res c.sub ∙ (c.sub.ensures ∙ ap (sub (pos 6)) (scal-is (goal.at.returns c).After-scal-n)) in
-    let x = res c.l_shr-lmax ∙ (c.l_shr-lmax.ensures ∙ ap₂ (shr w32) (back {w = w32} (sum_fits l) ∙ sum_is l) e) in
+    let x = res c.shr-lmax ∙ (c.shr-lmax.ensures ∙ ap₂ (shr w32) (back {w = w32} (sum_fits l) ∙ sum_is l) e) in
     let y = res c.power ∙ (c.power.ensures ∙ ap (λ (lag : ℕ). L_power lag l.args.dp.now) (lag-is l)) in
     record {
       lag = lag-is l;

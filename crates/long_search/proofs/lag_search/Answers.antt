@@ -4,7 +4,7 @@ use mathlib.Core.Path.{◌≡◌, sym, ap, ap₂, ◌∙◌}
 use mathlib.Core.List.{List}
 use native.Mathlib.Omega.{arith}
 use lib.IntN.{ℤ, pos, ◌+ℤ◌}
-use lib.ListN.{length, take, drop}
+use lib.ListN.{length, take, drop, length-take}
 use lib.Seq.{take_all}
 use lib.Signed.{lt_z}
 use mir.Syntax.{w32}
@@ -23,7 +23,7 @@ use Rattle.long_search.proofs.lag_search.Goals as goal
 use Rattle.long_search.proofs.lag_search.Goals.{After-better-arg-1, After-loop-i, At-loop-i, In-loop-i, Start}
 
 pub loop-i-init : goal.loop-i-init
-loop-i-init c = (omega arith, sym best_start)
+loop-i-init c = sym best_start
 
 -- the start, from the loop
 abbrev start : At-loop-i → Start
@@ -35,7 +35,7 @@ part dp i h = let e : (112 - i) - (80 - i) ≡ 32 = omega arith in rw e
 
 pub l_sum-requires : goal.l_sum-requires
 l_sum-requires c =
-    let t = c.before.before.before in
+    let t = c.before.before in
     let s = start t in
     let i = t.loop-i.i in
     let ((m, n), small) = s.requires in
@@ -45,7 +45,7 @@ l_sum-requires c =
 -- an iteration: what was read and what the call gave
 module _ (c : After-better-arg-1) where
   abbrev t : At-loop-i
-  t = let read : In-loop-i = c.before.before.before.before in read.before
+  t = let read : In-loop-i = c.before.before.before in read.before
 
   abbrev s : Start
   s = start t
@@ -87,12 +87,11 @@ pub loop-i-preserved : goal.loop-i-preserved
 loop-i-preserved c =
     let b = c.before in
     let xs = correlated (wt b) (dp b) in
-    let l : i b < length xs = rw tab_length (omega arith) in (
-      omega arith,
-      c.better-found.ensures
-          ∙ by_cond (λ z. z ≡ best (take (i b + 1) xs)) (lt_z (t b).loop-i.found.sum _)
-          (best_new xs (i b) (t b).loop-i.invariant.1 l (turn b)) (best_old xs (i b) (t b).loop-i.invariant.1 l (turn b)),
-    )
+    let l : i b < length xs = rw tab_length (omega arith) in
+    let h = (t b).loop-i.invariant in
+    c.better-found.ensures
+    ∙ by_cond (λ z. z ≡ best (take (i b + 1) xs)) (lt_z (t b).loop-i.found.sum _) (best_new xs (i b) h l (turn b))
+    (best_old xs (i b) h l (turn b))
 
 -- after the loop: the best of all 81
 found-is : (c : After-loop-i) → let s = start c.before in
@@ -102,7 +101,7 @@ found-is c =
     let s = start t in
     let xs = correlated s.args.wt.now s.args.dp.now in
     let h : 81 ≤ t.loop-i.i = c.loop-i-test.false in
-    t.loop-i.invariant.1 ∙ ap best (take_all t.loop-i.i xs (rw tab_length h))
+    t.loop-i.invariant ∙ ap best (take_all t.loop-i.i xs (rw tab_length h))
 
 pub overflow_add-result : goal.overflow_add-result
 overflow_add-result c =
@@ -123,14 +122,8 @@ returns c =
       positive = rw (back {w = w32} f) (ap (λ (b : Best). lt_z (pos 0) b.sum) e);
     }
 
-pub lasts-last-requires : goal.lasts-last-requires
-lasts-last-requires c = let ((m, n), small) = c.requires in ((m, n), (small, c.each_a_word.ensures))
-
-pub slice_bounds-l_sum-end : goal.slice_bounds-l_sum-end
-slice_bounds-l_sum-end c = omega (arith, (start c.before).requires.0.0)
-
-pub slice_bounds-l_sum-end-in-loop-i : goal.slice_bounds-l_sum-end-in-loop-i
-slice_bounds-l_sum-end-in-loop-i c = omega (arith, (start c.before.before).requires.0.1)
-
 pub overflow_add-l_sum : goal.overflow_add-l_sum
 overflow_add-l_sum = sum_fits
+
+pub slice_bounds-l_sum-end : goal.slice_bounds-l_sum-end
+slice_bounds-l_sum-end c = simp length-take (omega (arith, c.requires.0.0))

@@ -1,5 +1,4 @@
 -- In iteration i the first 32 products and the last 8 are together the sum at lag 40 + i, and the better of two is kept.
-use Prim.Native.Nat.{◌-◌, ◌≤◌}
 use mathlib.Core.Path.{◌≡◌}
 use lib.ListN.{take}
 use Rattle.math_lists.specs.Best.{best}
@@ -8,7 +7,4 @@ use Rattle.long_search.specs.Search.{correlated}
 use Rattle.long_search.proofs.lag_search.Given as goal
 
 abbrev pub invariant-loop-i : goal.invariant-loop-i
-invariant-loop-i l = (l.i ≤ 81) × (chosen l.found ≡ best (take l.i (correlated l.wt l.dp)))
-
-abbrev pub decreases-loop-i : goal.decreases-loop-i
-decreases-loop-i l = 81 - l.i
+invariant-loop-i l = chosen l.found ≡ best (take l.i (correlated l.wt l.dp))

@@ -66,6 +66,3 @@ returns-else-temp-gt6 c =
     let j = c.before.before in
     let t : lt_z (pos 6) (to_z w16 j.if-dmax-eq0.temp-bits) ≡ false = omega (zar, c.if-temp-gt6.false) in
     rw (← temp-is j, t) (res c.sub ∙ c.sub.ensures)
-
-pub overflow_cast-dmax : goal.overflow_cast-dmax
-overflow_cast-dmax c = search zfits

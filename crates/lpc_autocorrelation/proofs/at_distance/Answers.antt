@@ -1,113 +1,59 @@
 -- Iteration j adds a block of 32 products: before it the sum is that of the first 32 * j (`parts_next`).
-use Prim.Native.Nat.{ℕ, ◌+◌, ◌-◌, ◌*◌, ◌≤◌, ◌<◌}
-use mathlib.Core.Path.{◌≡◌, refl, sym, ap, ap₂, ◌∙◌}
-use mathlib.Core.Bool.{true}
-use mathlib.Core.List.{List, zip_with}
-use native.Mathlib.Omega.{arith}
-use lib.IntN.{ℤ, pos, ◌+ℤ◌}
-use lib.ListN.{length, take, drop}
-use mir.Syntax.{w32}
-use mir.Val.{to_z}
-use Rattle.math_integers.specs.Halves.{mem}
-use Rattle.math_integers.specs.Ranges.{back, res}
+use Rattle.std.specs.Prelude.{◌≡◌, refl, ℕ, ◌+◌, ◌-◌, ◌*◌, ◌≤◌, ◌<◌, true, List, ℤ, pos, ◌+ℤ◌, length, take, drop, nat_abs}
+use Rattle.std.proofs.Common.{sym, arith, rules, to_z-of_z}
+use Rattle.std.proofs.lemmas.Int.{ints}
+use mathlib.Core.List.{zip_with}
 use Rattle.math_lists.specs.Every.{every}
 use Rattle.standard.specs.Arithmetic.{L_sum}
-use Rattle.op_sums.specs.Room.{at_most}
-use Rattle.lpc_autocorrelation.specs.Blocks.{upto, parts_next, parts_room, parts_fit}
+use Rattle.op_sums.specs.Room.{at_most, Headroom}
+use Rattle.lpc_autocorrelation.specs.Blocks.{upto, parts_next, parts_room, parts_in}
 use Rattle.lpc_autocorrelation.proofs.at_distance.Goals as goal
-use Rattle.lpc_autocorrelation.proofs.at_distance.Goals.{After-l_sum-arg-in-loop-j-1, After-l_sum-sum, At-loop-j}
 
 pub loop-j-init : goal.loop-j-init
 unfolding L_sum zip_with
-loop-j-init c = (omega arith, refl)
+loop-j-init c = refl
 
--- the parts that are read
-part : (z : List ℤ) (a b : ℕ) → b ≡ 32 + a → take (b - a) (drop a z) ≡ take 32 (drop a z)
-part z a b e = let f : b - a ≡ 32 = omega arith in rw f
+module _ (z : List ℤ) (l : length z ≡ 168) (p : every (at_most 2048) z ≡ true) where
+  -- two parts of one length, of at most 32 samples
+  module _ (a b c d : ℕ) (q : a ≤ b) (r : b ≤ 168) (t : c ≤ d) (u : d ≤ 168) (v : b - a ≤ 32) (e : d - c ≡ b - a) where
+    -- may be added on 32 bits
+    room : Headroom (take (b - a) (drop a z)) (take (d - c) (drop c z))
+    room = rw e (parts_room z l p (b - a) a c (omega arith) (omega arith) (omega arith))
 
--- an iteration: the two parts, that their sum fits, and what they add
-module _ (c : After-l_sum-arg-in-loop-j-1) where
-  abbrev t : At-loop-j
-  t = c.before.before.before
+    -- and give no more than 32 times the greatest product, doubled
+    block_in : nat_abs (L_sum (pos 0) (take (b - a) (drop a z)) (take (d - c) (drop c z))) ≤ 268435456
+    block_in = rw e (omega (arith, parts_in z l p (b - a) a c (omega arith) (omega arith) (omega arith)))
 
-  abbrev z : List ℤ
-  z = t.args.z.now
-
-  abbrev k : ℕ
-  k = t.args.k
-
-  abbrev j : ℕ
-  j = t.loop-j.j
-
-  few : j < 5
-  few = omega (arith, c.loop-j-test.true)
-
-  near : k ≤ 8
-  near = t.requires.1.1
-
-  late : take ((40 + 32 * j) - (8 + 32 * j)) (drop (8 + 32 * j) z) ≡ take 32 (drop (8 + 32 * j) z)
-  late = part z (8 + 32 * j) (40 + 32 * j) (omega arith)
-
-  early : take (((40 - k) + 32 * j) - ((8 - k) + 32 * j)) (drop ((8 - k) + 32 * j) z) ≡ take 32 (drop ((8 - k) + 32 * j) z)
-  early = part z ((8 - k) + 32 * j) ((40 - k) + 32 * j) (omega (arith, near))
-
-  length_z : length z ≡ 168
-  length_z = t.requires.0
-
-  small : every (at_most 2048) z ≡ true
-  small = t.requires.1.0
-
-  next : upto z k (32 * (j + 1)) ≡ upto z k (32 * j) +ℤ L_sum (pos 0) (take 32 (drop (8 + 32 * j) z)) (take 32 (drop ((8 - k) + 32 * j) z))
-  next =
+  -- block j comes after those before it
+  next : (k j : ℕ) → k ≤ 8 → j < 5
+      → let late = take (40 + 32 * j - (8 + 32 * j)) (drop (8 + 32 * j) z) in
+      let early = take (40 - k + 32 * j - (8 - k + 32 * j)) (drop (8 - k + 32 * j) z) in
+      upto z k (32 * j) +ℤ L_sum (pos 0) late early ≡ upto z k (32 * (j + 1))
+  next k j h i =
       let e : 32 * (j + 1) ≡ 32 * j + 32 = omega arith in
-      ap (upto z k) e
-      ∙ parts_next z length_z small (32 * j) 32 8 (8 - k) (omega (arith, few)) (omega (arith, few)) (omega (arith, few))
+      let f : 40 + 32 * j - (8 + 32 * j) ≡ 32 = omega arith in
+      let g : 40 - k + 32 * j - (8 - k + 32 * j) ≡ 32 = omega arith in
+      rw (e, f, g) (sym (parts_next z l p (32 * j) 32 8 (8 - k) (omega arith) (omega arith) (omega arith)))
 
 pub l_sum-sum-requires : goal.l_sum-sum-requires
 l_sum-sum-requires c =
-    let a = 8 + 32 * j c in
-    let b = (8 - k c) + 32 * j c in
-    rw (late c, early c)
-    (parts_room (z c) (length_z c) (small c) 32 a b (omega (arith, few c)) (omega (arith, few c)) (omega arith))
-
--- the sum so far and that of the block
-sum_is : (c : After-l_sum-sum) → let a = c.before in
-    to_z w32 (t a).loop-j.sum-bits +ℤ mem w32 c.l_sum-sum.result ≡ upto (z a) (k a) (32 * (j a + 1))
-sum_is c =
-    let a = c.before in
-    ap₂ ◌+ℤ◌ (t a).loop-j.invariant.1 (res c.l_sum-sum ∙ (c.l_sum-sum.ensures ∙ ap₂ (L_sum (pos 0)) (late a) (early a))) ∙ sym (next a)
+    let l : length c.args.z.now ≡ 168 = search rules in
+    room c.args.z.now l c.requires.0 _ _ _ _ (omega arith) (omega arith) (omega arith) (omega arith) (omega arith) (omega arith)
 
 pub overflow_add-sum : goal.overflow_add-sum
 overflow_add-sum c =
-    let a = c.before in
-    let n = 32 * (j a + 1) in
-    let f = few a in
-    rw (sum_is c)
-    (parts_fit (z a) (length_z a) (small a) n 8 (8 - k a) (omega (arith, f)) (omega (arith, f)) (omega (arith, f)))
+    let z = c.args.z.now in
+    let l : length z ≡ 168 = search rules in
+    let so-far = parts_in z l c.requires.0 (32 * c.loop-j.j) 8 (8 - c.args.k) (omega arith) (omega arith) (omega arith) in
+    let block : nat_abs c.l_sum-sum.result ≤ 268435456 =
+    rw c.l_sum-sum.ensures (block_in z l c.requires.0 _ _ _ _ (omega arith) (omega arith) (omega arith) (omega arith) (omega arith)
+    (omega arith)) in
+    grind (arith, ints)
 
 pub loop-j-preserved : goal.loop-j-preserved
-loop-j-preserved c = (omega (arith, few c.before), back (overflow_add-sum c) ∙ sum_is c)
-
-pub returns : goal.returns
-returns c =
-    let t = c in
-    let e : 32 * t.loop-j.j ≡ 160 = omega arith in
-    t.loop-j.invariant.1 ∙ ap (upto t.args.z.now t.args.k) e
-
-pub slice_bounds-l_sum-end : goal.slice_bounds-l_sum-end
-slice_bounds-l_sum-end c = omega (arith, c.requires.0)
-
-pub overflow_sub-k : goal.overflow_sub-k
-overflow_sub-k c = omega (arith, c.requires.1.1)
-
-pub overflow_sub-k-in-loop-j : goal.overflow_sub-k-in-loop-j
-overflow_sub-k-in-loop-j c = omega (arith, c.requires.1.1)
-
-pub slice_bounds-l_sum-start-in-loop-j : goal.slice_bounds-l_sum-start-in-loop-j
-slice_bounds-l_sum-start-in-loop-j c = omega (arith, c.requires.1.1)
-
-pub slice_bounds-l_sum-end-in-loop-j : goal.slice_bounds-l_sum-end-in-loop-j
-slice_bounds-l_sum-end-in-loop-j c = omega (arith, c.requires.1.1, c.requires.0)
-
-pub loop-j-smaller : goal.loop-j-smaller
-loop-j-smaller c = omega arith
+loop-j-preserved c =
+    let z = c.args.z.now in
+    let l : length z ≡ 168 = search rules in
+    let n = next z l c.requires.0 c.args.k c.loop-j.j c.requires.1 (omega arith) in
+    let f = overflow_add-sum c in
+    grind (arith, to_z-of_z)

@@ -1,25 +1,27 @@
 -- 4.2.7 step by step: each operation's promise, put into the next.
-use mathlib.Core.Path.{◌∙◌}
-use borrow.Author.Rules.{rules}
-use mir.Syntax.{w16}
-use Rattle.math_integers.specs.Ranges.{back, res}
+use Rattle.std.specs.Prelude.{ℕ, ◌≡◌, ◌<◌, ℤ}
+use Rattle.std.specs.Int.Signed.{◌≤ℤ◌}
+use Rattle.std.specs.Int.{int_min, int_max}
+use Rattle.std.proofs.Common.{arith, to_z-of_z}
+use Rattle.std.proofs.lemmas.Int.{ints}
+use Rattle.op_tables.specs.Facts.{LARc_span}
 use Rattle.law_arithmetic.specs.Shift.{down_bits}
-use Rattle.standard.specs.Lpc.{LARc}
+use Rattle.standard.specs.Tables.{◌at◌, MIC, MAC}
+use Rattle.standard.specs.Lpc.{clamped, LARc}
 use Rattle.lpc_logarea.proofs.larc.Goals as goal
+
+-- between ends in their order, std's limits are the standard's
+limits : (least most x : ℤ) → least ≤ℤ most → int_max least (int_min x most) ≡ clamped least most x
+unfolding clamped
+limits least most x h = grind (arith, ints)
+
+-- MIC is not above MAC
+ordered : (i : ℕ) → i < 8 → MIC at i ≤ℤ MAC at i
+ordered i h = let e = LARc_span i h in grind (arith, ints)
+
+pub clamp-requires : goal.clamp-requires
+clamp-requires c = grind (arith, to_z-of_z, ordered)
 
 pub returns : goal.returns
 unfolding LARc
-returns c =
-    let b = c.before in
-    let high = b.before in
-    let low = high.before in
-    let t = low.before in
-    let s = t.before in
-    let offset = s.before in
-    let m = offset.before in
-    let a = m.before in
-    let temp = down_bits w16 t.add-temp.result 9 (search rules) in
-    rw (res c.sub ∙ c.sub.ensures, res b.clamped ∙ b.clamped.ensures, temp, t.add-temp.ensures, res s.add-scaled ∙ s.add-scaled.ensures)
-    (rw (res m.mult ∙ m.mult.ensures, res a.lar_a ∙ a.lar_a.ensures)
-    (rw (res offset.lar_b ∙ offset.lar_b.ensures, back a.ranges.lar)
-    (rw (res low.lar_mic-mic ∙ low.lar_mic-mic.ensures, res high.lar_mac ∙ high.lar_mac.ensures))))
+returns c = grind (arith, to_z-of_z, limits, down_bits)

@@ -1,25 +1,23 @@
--- Iteration i makes one step of the standard's loop; what is left of that loop gives `K_start` at every iteration.
-use mathlib.Core.Path.{refl, sym, ◌∙◌}
-use native.Mathlib.Omega.{arith}
-use borrow.Author.Rules.{rules, sfits_of}
-use Rattle.math_integers.specs.Ranges.{back}
-use Rattle.math_lists.specs.Steps.{steps_next, steps_end}
+-- Element i of the array is 0 below 2, and ACF[9 - i] from there on: that is what the standard's loop leaves.
+use Rattle.std.specs.Prelude.{◌≡◌, refl, ℕ, ◌-◌, cond, List, ℤ, pos, replicate, ltb}
+use Rattle.std.proofs.Common.{◌∙◌, arith, rules, to_z-of_z}
+use Rattle.math_lists.specs.Made.{made_tab}
+use Rattle.math_lists.specs.Tab.{tab}
+use Rattle.math_lists.specs.Steps.{steps}
+use Rattle.standard.specs.Tables.{◌at◌}
 use Rattle.law_loops.specs.Recursion.{K_start}
-use Rattle.lpc_reflection.proofs.k_start.Invariants.{turn}
 use Rattle.lpc_reflection.proofs.k_start.Goals as goal
 
-pub loop-i-init : goal.loop-i-init
-unfolding K_start
-loop-i-init c = (search rules, refl)
+-- K[i] at the start
+abbrev entry : List ℤ → ℕ → ℤ
+entry acf i = cond (ltb i 2) (pos 0) (acf at (9 - i))
 
-pub loop-i-preserved : goal.loop-i-preserved
-loop-i-preserved c =
-    let b = c.before.before in
-    let acf = b.args.acf in
-    let next = steps_next (turn acf) 8 b.loop-i.i b.loop-i.k (omega arith) in
-    (search rules, rw (back (sfits_of c.k-1.given)) (sym next ∙ b.loop-i.invariant.1))
+turned : (acf : List ℤ) → tab (entry acf) 0 9 ≡ K_start acf (replicate 9 (pos 0))
+unfolding tab steps K_start
+turned acf = refl
 
 pub returns : goal.returns
 returns c =
-    let b = c.before in
-    sym (steps_end (turn b.args.acf) 8 b.loop-i.i b.loop-i.k (omega arith)) ∙ b.loop-i.invariant.1
+    made_tab c.from_fn.ensures.items (entry c.args.acf) (pos 0)
+    (λ k b y q t. (search rules, grind (arith, to_z-of_z)))
+    ∙ turned c.args.acf

@@ -1,36 +1,24 @@
 -- Iteration k makes one step of the definition's run, from `last`, which is the sample before.
-use mathlib.Core.Path.{refl, ◌∙◌}
-use native.Mathlib.Omega.{arith}
-use borrow.Author.Rules.{sfits_of}
-use lib.IntN.{pos}
-use lib.ListN.{length-set}
-use mir.Syntax.{w16}
+use Rattle.std.specs.Prelude.{refl, pos}
+use Rattle.std.proofs.Common.{arith, rules, to_z-of_z}
+use Rattle.std.specs.Int.{w16}
 use mir.Val.{SFits}
-use Rattle.math_integers.specs.Ranges.{back, res}
+use Rattle.math_integers.specs.Ranges.{back}
 use Rattle.math_lists.specs.Scan.{along_start, along_next, along_end}
 use Rattle.standard.specs.Tables.{◌at◌}
 use Rattle.standard.specs.Preprocessing.{emphasis}
 use Rattle.pre_processing.proofs.emphasis.Goals as goal
 
 pub loop-k-init : goal.loop-k-init
-loop-k-init c = (along_start emphasis _ _ _, omega arith, c.requires)
+loop-k-init c = grind (arith, to_z-of_z, along_start)
 
 pub loop-k-preserved : goal.loop-k-preserved
 unfolding emphasis
 loop-k-preserved c =
-    let b = c.before.before.before.before in
-    let sof = b.args.sof.now in
-    let l = b.loop-k in
-    let r : SFits w16 (sof at l.k) = sfits_of c.now-1.given in (
-      along_next emphasis _ _ (pos 0) l.invariant.0 (omega arith) (omega arith) (back r) refl
-          (rw (res c.add ∙ c.add.ensures, res c.mult_r ∙ c.mult_r.ensures)),
-      omega arith,
-      simp length-set l.invariant.2,
-    )
+    let f : SFits w16 (c.args.sof.now at c.loop-k.k) = search rules in
+    along_next emphasis _ _ (pos 0) c.loop-k.invariant (omega arith) (omega arith) refl (back f) (grind (arith, to_z-of_z))
 
 pub returns : goal.returns
 returns c =
-    let s = c.before.before in
-    let l = c.loop-k in
-    let both = rw (back s.ranges.mp) at (along_end emphasis _ _ l.invariant.0 (omega arith) (omega arith)) in
+    let both = rw (back c.ranges.mp) at (along_end emphasis _ _ c.loop-k.invariant (omega arith) (omega arith)) in
     record { mp = both.0; samples = both.1 }

@@ -1,10 +1,7 @@
 -- Iteration k makes one step of the definition's run, from `last`, which is the sample before.
-use Prim.Native.Nat.{◌≤◌}
-use mathlib.Core.Path.{◌≡◌}
-use lib.ListN.{length}
 use Rattle.math_lists.specs.Scan.{Along}
 use Rattle.standard.specs.Preprocessing.{emphasis}
 use Rattle.pre_processing.proofs.emphasis.Given as goal
 
 abbrev pub invariant-loop-k : goal.invariant-loop-k
-invariant-loop-k l = Along emphasis l.mp l.sof l.last l.k l.s × (l.k ≤ length l.sof) × (length l.s ≡ length l.sof)
+invariant-loop-k l = Along emphasis l.fn.mp l.sof l.last l.k l.s

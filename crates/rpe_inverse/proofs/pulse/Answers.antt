@@ -2,7 +2,6 @@
 -- what mult_r and add give.
 use Prim.Native.Nat.{◌*◌, ◌%◌, ◌≤◌}
 use mathlib.Core.Path.{◌≡◌, sym, ap, ◌∙◌}
-use native.Mathlib.Omega.{arith}
 use lib.IntN.{ℤ, pos, ◌+ℤ◌, ◌*ℤ◌}
 use mir.Syntax.{w16, w32}
 use mir.Val.{SFits, of_z, to_z}
@@ -11,7 +10,7 @@ use Rattle.math_integers.specs.Ranges.{zfits, wide, back}
 use Rattle.standard.specs.Arithmetic.{◌<<◌, ◌>>◌, shr, add, sub, mult_r}
 use Rattle.law_arithmetic.specs.Clip.{plus_plain, plus_fits}
 use Rattle.law_arithmetic.specs.Shift.{up_bits, keep_fits, shr_word}
-use Rattle.rpe_quantise.specs.Counts.{count_below, shr_bits}
+use Rattle.rpe_quantise.specs.Counts.{shr_bits}
 use Rattle.rpe_inverse.specs.Inverse.{top_in, product_plain, total_fits}
 use Rattle.rpe_inverse.proofs.pulse.Goals as goal
 use Rattle.rpe_inverse.proofs.pulse.Goals.{After-sub-x}
@@ -71,29 +70,11 @@ shifted c =
       shr_word w16 z s.args.temp2 (plus_fits w16 (mult_r s.args.temp1 (x c)) s.args.temp3),
     )
 
-pub overflow_cast-temp : goal.overflow_cast-temp
-overflow_cast-temp c = search zfits
-
-pub overflow_cast-temp-2 : goal.overflow_cast-temp-2
-overflow_cast-temp-2 c = let f = x_fits c in search zfits
-
-pub overflow_mul-temp : goal.overflow_mul-temp
-overflow_mul-temp c = let f = x_fits c in search zfits
-
 pub overflow_add-temp : goal.overflow_add-temp
 overflow_add-temp c = let f = x_fits c in search zfits
 
-pub overflow_cast-result : goal.overflow_cast-result
-overflow_cast-result c = search zfits
-
 pub overflow_add-result : goal.overflow_add-result
 overflow_add-result c = let f = c.ranges.temp3 in rw (temp-is c, back f, back (wide {v = w32} f tt)) (wide (sum-in c) tt)
-
-pub overflow_cast-result-2 : goal.overflow_cast-result-2
-overflow_cast-result-2 c = search zfits
-
-pub overflow_shr-result : goal.overflow_shr-result
-overflow_shr-result c = let s = c in rw (back s.ranges.temp2) (omega (arith, count_below w32 s.args.temp2 s.requires.1.0))
 
 pub overflow_cast-result-3 : goal.overflow_cast-result-3
 overflow_cast-result-3 c = let (e, f) = shifted c in rw (sum_is c, e, back (wide {v = w32} f tt)) f

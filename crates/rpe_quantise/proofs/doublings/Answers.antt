@@ -1,40 +1,28 @@
--- One return for each range of the mantissa: it lies between two powers of 2, and they decide the number of doublings.
-use Prim.Native.Nat.{ℕ, ◌-◌, ◌^◌, ◌<◌}
-use mathlib.Core.Path.{◌≡◌, ap}
-use mathlib.Core.Bool.{true, false}
+-- A mantissa of m bits lies between two powers of 2, so 4 − m doublings of the mantissa and 1 bring it above 8, and fewer do not.
+use Prim.Native.Nat.{◌-◌}
+use mathlib.Core.Path.{◌≡◌, ap, ◌∙◌}
 use native.Mathlib.Omega.{arith}
-use lib.Dec.{T, leb, leb→le}
-use lib.IntN.{ℤ, pos}
-use lib.Pow.{pow_pos}
-use lib.Signed.{lt_z}
+use lib.IntN.{pos, ◌-ℤ◌}
 use mir.Syntax.{w16}
-use mir.Val.{SFits}
-use Rattle.math_integers.specs.Halves.{P, zar, know, mem}
-use Rattle.math_lists.specs.First.{first}
-use Rattle.rpe_quantise.specs.Doubling.{doubled, doubled_by}
+use mir.Val.{of_z}
+use mir.Facts.{to_z_pos}
+use Rattle.std.specs.Int.{leading_zeros}
+use Rattle.math_integers.specs.Halves.{P, zar, apart}
+use Rattle.math_integers.specs.Sums.{minus_is}
+use Rattle.math_integers.specs.Ranges.{back}
+use Rattle.rpe_quantise.specs.Bits.{Bits, bits_of, bits_most}
+use Rattle.rpe_quantise.specs.Doubling.{doubled_by}
 use Rattle.rpe_quantise.proofs.doublings.Goals as goal
 
--- the return of k, by the test that passed and the test that failed before it
-between : {x : ℤ} (k : ℕ) → T (leb k 4) → SFits w16 x
-    → (0 < k → lt_z (mem w16 x) (pos (2 ^ (4 - k))) ≡ true) → (k < 4 → lt_z (mem w16 x) (pos (2 ^ (3 - k))) ≡ false)
-    → pos k ≡ pos (first (doubled (P x)) 4 0)
-between {x} k l f below above =
-    ap pos
-    (doubled_by (P x) k (leb→le k 4 l)
-    (λ g. omega (zar, know f, below g, pow_pos (4 - k)))
-    (λ g. omega (zar, know f, above g, pow_pos (3 - k))))
-
-pub returns-then-mant-lt1 : goal.returns-then-mant-lt1
-returns-then-mant-lt1 c = between 4 tt c.ranges.mant (λ g. c.if-mant-lt1.true) (λ g. absurd (omega arith))
-
-pub returns-then-mant-lt2 : goal.returns-then-mant-lt2
-returns-then-mant-lt2 c = between 3 tt c.ranges.mant (λ g. c.if-mant-lt2.true) (λ g. c.if-mant-lt1.false)
-
-pub returns-then-mant-lt4 : goal.returns-then-mant-lt4
-returns-then-mant-lt4 c = between 2 tt c.ranges.mant (λ g. c.if-mant-lt4.true) (λ g. c.if-mant-lt2.false)
-
-pub returns-then-mant-lt8 : goal.returns-then-mant-lt8
-returns-then-mant-lt8 c = between 1 tt c.ranges.mant (λ g. c.if-mant-lt8.true) (λ g. c.if-mant-lt4.false)
-
-pub returns-else-mant-lt8 : goal.returns-else-mant-lt8
-returns-else-mant-lt8 c = between 0 tt c.ranges.mant (λ g. absurd (omega arith)) (λ g. c.if-mant-lt8.false)
+pub returns : goal.returns
+returns c =
+    let x = c.args.mant in
+    let n = c.leading_zeros.result in
+    let b : Bits x = bits_of x c.requires.0 c.ranges.mant in
+    let m = bits_most b 4 (omega (zar, c.requires, apart x)) in
+    let e : n ≡ leading_zeros w16 (of_z w16 x) = rw (back c.ranges.mant) at c.leading_zeros.ensures in
+    let d : pos n -ℤ pos 12 ≡ pos (4 - b.count) = omega (zar, minus_is (pos n) (pos 12), apart (pos n -ℤ pos 12)) in
+    rw (to_z_pos w16 {n = n} (omega arith), d)
+    (to_z_pos w16 (omega arith) ∙ ap pos (doubled_by (P x) (4 - b.count) (omega arith)
+    (λ g. let k : 4 - (4 - b.count) ≡ b.count = omega arith in rw k b.below)
+    (λ g. let k : 3 - (4 - b.count) ≡ b.count - 1 = omega arith in rw k (b.above (omega arith)))))

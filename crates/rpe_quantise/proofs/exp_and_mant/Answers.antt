@@ -128,14 +128,12 @@ returns c =
           back (overflow_sub-result-2 c) ∙ rw (up_is j c.doublings-n.result (count c)) (less _ _ (doubled_above (m j)) ∙ ap pos (sym mant));
     }
 
-pub overflow_sub-exp : goal.overflow_sub-exp
-overflow_sub-exp c = search (rules, less_fits (part c.before 8) (omega (arith, code c.before)))
-
-pub overflow_sub-mant : goal.overflow_sub-mant
-overflow_sub-mant c = rw (rest_is c.before.before) (omega (zar, parts c.before.before))
-
 pub overflow_add-result : goal.overflow_add-result
 overflow_add-result c = let j = c.before.before in rw (mant_is j) (omega (zar, parts j))
 
 pub overflow_shl-result : goal.overflow_shl-result
 overflow_shl-result c = rw (count c) (omega (arith, few c.before.before))
+
+pub doublings-n-requires : goal.doublings-n-requires
+doublings-n-requires c =
+    let j = (goal.at.doublings-n-requires c).Joined-xmaxc-le15 in rw (mant_is j) (omega (zar, parts j), omega (zar, parts j))

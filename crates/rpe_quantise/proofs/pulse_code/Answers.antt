@@ -45,9 +45,6 @@ module _ {x b : ℤ} (f : SFits w16 x) (g : SFits w16 b) (m : ℕ) (h : T (leb 1
     sum_fits : T (leb k 8) → SFits w16 (mem w16 product +ℤ pos k)
     sum_fits l = rw sum (omega (zar, small x b f g m (leb→le 1048576 m h), add_is (shr_z (x *ℤ b) m) (pos k), leb→le k 8 l))
 
-pub overflow_cast-result-3 : goal.overflow_cast-result-3
-overflow_cast-result-3 c = product_fits (y-fits c) c.ranges.temp2 _ tt
-
 pub overflow_add-result : goal.overflow_add-result
 overflow_add-result c = sum_fits (y-fits c) c.ranges.temp2 _ tt _ tt
 
@@ -59,12 +56,3 @@ returns c =
 
 pub overflow_shl-result : goal.overflow_shl-result
 overflow_shl-result c = count_below w16 c.args.temp1 c.requires.0
-
-pub overflow_cast-result : goal.overflow_cast-result
-overflow_cast-result c = let f = y-fits c in search zfits
-
-pub overflow_cast-result-2 : goal.overflow_cast-result-2
-overflow_cast-result-2 c = search zfits
-
-pub overflow_mul-result : goal.overflow_mul-result
-overflow_mul-result c = let f = y-fits c in search zfits

@@ -119,9 +119,6 @@ pair3 c = tap_local (pos 2054) (sfits_of c.tap-3.type_inv) (c.tap-3.ensures.is, 
 pair4 : (c : After-tap-4) → Local (mem w32 c.tap-4.result) (pos 5741 *ℤ (wt c at 4 +ℤ wt c at 6)) 376242176
 pair4 c = tap_local (pos 5741) (sfits_of c.tap-4.type_inv) (c.tap-4.ensures.is, c.tap-4.ensures.near) (w4 c) (w6 c)
 
-pub overflow_add-outer : goal.overflow_add-outer
-overflow_add-outer c = plus_fits (pair1 (at2 c)) (pair2 c) (omega arith)
-
 pub overflow_add-inner : goal.overflow_add-inner
 overflow_add-inner c = plus_fits (pair3 (at4 c)) (pair4 c) (omega arith)
 
@@ -173,9 +170,6 @@ returns c =
     ∙ (c.clip_word.ensures
     ∙ (ap (clip w16) (down_bits w32 _ 13 (overflow_add-outer-4 a) ∙ ap (λ (s : ℤ). (s +ℤ pos 4096) >> 13) l.is)
     ∙ sym (filtered_is (wt t4) (at1 (at2 (at3 (at4 t4)))).requires (heard a))))
-
-pub overflow_cast-wt : goal.overflow_cast-wt
-overflow_cast-wt = cast_fits
 
 pub overflow_mul-wt : goal.overflow_mul-wt
 overflow_mul-wt = middle_fits

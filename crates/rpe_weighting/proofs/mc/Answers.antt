@@ -1,8 +1,8 @@
--- Each sum that the search gets is the energy of its grid, and four steps of the search find the best of the four.
-use Prim.Native.Nat.{ℕ, ◌+◌, ◌<◌, ◌≤◌}
+-- Each sum that the search gets is the energy of its grid, and the loop keeps the best of the grids that it has passed.
+use Prim.Native.Nat.{ℕ, ◌+◌, ◌<◌}
 use mathlib.Core.Path.{◌≡◌, sym, ap, ap₂, ◌∙◌}
-use mathlib.Core.Bool.{true, cond}
-use mathlib.Core.List.{List}
+use mathlib.Core.Bool.{true}
+use mathlib.Core.List.{List, [], ◌∷◌}
 use native.Mathlib.Omega.{arith}
 use lib.IntN.{ℤ, pos, ◌+ℤ◌, ◌-ℤ◌}
 use lib.ListN.{length, take}
@@ -18,25 +18,15 @@ use Rattle.math_lists.specs.Every.{every}
 use Rattle.math_lists.specs.First.{by_cond}
 use Rattle.math_lists.specs.Tab.{tab, tab_length, tab_at_zero}
 use Rattle.math_lists.specs.Best.{Best, best, best_start, best_new, best_old}
-use Rattle.standard.specs.Arithmetic.{L_squares}
 use Rattle.standard.specs.Tables.{◌at◌}
-use Rattle.standard.specs.Rpe.{grid, Mc}
-use Rattle.op_sums.specs.Search.{best_of}
+use Rattle.standard.specs.Rpe.{Mc}
 use Rattle.rpe_weighting.specs.Energy.{small, small_at, total, total_in, energy_is, fourth_is}
+use Rattle.rpe_weighting.proofs.mc.Invariants.{energy, energies}
 use Rattle.rpe_weighting.proofs.mc.Goals as goal
-use Rattle.rpe_weighting.proofs.mc.Goals.{After-totals-e}
-
--- the energy of a grid, and the four
-abbrev energy : List ℤ → ℕ → ℤ
-energy x m = L_squares 2 (grid m x)
-
-abbrev energies : List ℤ → List ℤ
-energies x = tab (energy x) 0 4
-
--- ---- the sums
+use Rattle.rpe_weighting.proofs.mc.Goals.{After-totals-first}
 
 -- after the first three sums: the samples and their squares
-module _ (t : After-totals-e) where
+module _ (t : After-totals-first) where
   abbrev x : List ℤ
   x = t.args.x
 
@@ -49,98 +39,111 @@ module _ (t : After-totals-e) where
   all_small : every small q ≡ true
   all_small = t.squares-q.ensures.small
 
-  -- the three, as the code has them
-  first_is : mem w32 t.totals-e.result.first ≡ total 0 q
-  first_is = let f : SFits w32 t.totals-e.result.first = search rules in back f ∙ t.totals-e.ensures.first
-
-  second_is : mem w32 t.totals-e.result.second ≡ total 1 q
-  second_is = let f : SFits w32 t.totals-e.result.second = search rules in back f ∙ t.totals-e.ensures.second
-
-  third_is : mem w32 t.totals-e.result.third ≡ total 2 q
-  third_is = let f : SFits w32 t.totals-e.result.third = search rules in back f ∙ t.totals-e.ensures.third
-
-  -- s is the sum over a grid
-  module _ (m : ℕ) (h : m ≤ 3) {s : ℤ} (e : s ≡ total m q) where
-    -- its double fits 32 bits
-    double_fits : SFits w32 (s +ℤ s)
-    double_fits = rw e (omega (zar, total_in q forty all_small m h, abs_is (total m q), add_is (total m q) (total m q)))
-
-    -- which is the energy
-    double_is : mem w32 (s +ℤ s) ≡ energy x m
-    double_is =
-        let l : length x ≡ 40 = search rules in
-        let q-is = t.squares-q.ensures.is in
-        back double_fits ∙ (ap (λ (z : ℤ). z +ℤ z) (e ∙ ap (total m) q-is) ∙ sym (energy_is m x h l (rw q-is at all_small)))
-
-    -- so a step of the search goes from b, the best of the grids before, to the best with this one
-    turn : {b r : Best} → b ≡ best (take m (energies x)) → r ≡ cond (lt_z b.sum (mem w32 (s +ℤ s))) (best_of m (mem w32 (s +ℤ s))) b
-        → r ≡ best (take (m + 1) (energies x))
-    turn {b} p r =
-        let xs = energies x in
-        let l : m < length xs = omega (arith, tab_length (energy x) 0 4) in
-        let d = double_is ∙ sym (tab_at_zero (energy x) 4 m (pos 0) (omega arith)) in
-        r ∙ by_cond (λ z. z ≡ best (take (m + 1) xs)) (lt_z b.sum (mem w32 (s +ℤ s))) (best_new xs m p l d) (best_old xs m p l d)
-
--- the fourth sum starts as the first sum less square 0, and square 39 is added to it
-module _ (t : After-totals-e) where
   -- a square fits 32 bits
-  square_fits : (k : ℕ) → k < 40 → SFits w32 (q t at k)
-  square_fits k h = omega (zar, small_at (q t) (forty t) (all_small t) k h, abs_is (q t at k))
+  square_fits : (k : ℕ) → k < 40 → SFits w32 (q at k)
+  square_fits k h = omega (zar, small_at q forty all_small k h, abs_is (q at k))
 
+  -- the three, as the code has them
+  abbrev first : ℤ
+  first = mem w32 t.totals-first.result.0
+
+  first_is : first ≡ total 0 q
+  first_is = let f : SFits w32 t.totals-first.result.0 = search rules in back f ∙ t.totals-first.ensures.first
+
+  abbrev second : ℤ
+  second = mem w32 t.totals-first.result.1
+
+  second_is : second ≡ total 1 q
+  second_is = let f : SFits w32 t.totals-first.result.1 = search rules in back f ∙ t.totals-first.ensures.second
+
+  abbrev third : ℤ
+  third = mem w32 t.totals-first.result.2
+
+  third_is : third ≡ total 2 q
+  third_is = let f : SFits w32 t.totals-first.result.2 = search rules in back f ∙ t.totals-first.ensures.third
+
+  -- the fourth is the first less square 0, with square 39
   abbrev less : ℤ
-  less = mem w32 t.totals-e.result.first -ℤ mem w32 (q t at 0)
+  less = first -ℤ mem w32 (q at 0)
 
-  less_is : less ≡ total 0 (q t) -ℤ q t at 0
-  less_is = ap₂ ◌-ℤ◌ (first_is t) (back (square_fits 0 (omega arith)))
+  less_is : less ≡ total 0 q -ℤ q at 0
+  less_is = ap₂ ◌-ℤ◌ first_is (back (square_fits 0 (omega arith)))
 
   less_fits : SFits w32 less
   less_fits =
-      let s = total 0 (q t) in
-      let z = q t at 0 in
-      let s-in = total_in (q t) (forty t) (all_small t) 0 (omega arith) in
-      let z-in = small_at (q t) (forty t) (all_small t) 0 (omega arith) in
-      rw less_is (omega (zar, abs_is s, abs_is z, minus_is s z))
+      let s-in = total_in q forty all_small 0 (omega arith) in
+      let z-in = small_at q forty all_small 0 (omega arith) in
+      rw less_is (omega (zar, abs_is (total 0 q), abs_is (q at 0), minus_is (total 0 q) (q at 0)))
 
   abbrev fourth : ℤ
-  fourth = mem w32 less +ℤ mem w32 (q t at 39)
+  fourth = mem w32 less +ℤ mem w32 (q at 39)
 
-  sum_is : fourth ≡ total 3 (q t)
-  sum_is = ap₂ ◌+ℤ◌ (back less_fits ∙ less_is) (back (square_fits 39 (omega arith))) ∙ fourth_is (q t)
+  fourth-is : fourth ≡ total 3 q
+  fourth-is = ap₂ ◌+ℤ◌ (back less_fits ∙ less_is) (back (square_fits 39 (omega arith))) ∙ fourth_is q
 
   fourth_fits : SFits w32 fourth
-  fourth_fits = rw sum_is (omega (zar, total_in (q t) (forty t) (all_small t) 3 (omega arith), abs_is (total 3 (q t))))
+  fourth_fits = rw fourth-is (omega (zar, total_in q forty all_small 3 (omega arith), abs_is (total 3 q)))
 
-  last_is : mem w32 fourth ≡ total 3 (q t)
-  last_is = back fourth_fits ∙ sum_is
+  -- all four, as the code has them
+  abbrev sums : List ℤ
+  sums = first ∷ second ∷ third ∷ mem w32 fourth ∷ []
 
-pub overflow_sub-fourth : goal.overflow_sub-fourth
-overflow_sub-fourth c = less_fits (goal.at.overflow_sub-fourth c).After-totals-e
+  module _ (m : ℕ) (h : m < 4) where
+    sum_at : sums at m ≡ total m q
+    unfolding tab
+    sum_at =
+        let e : sums ≡ tab (λ m. total m q) 0 4 = cc (first_is, second_is, third_is, back fourth_fits, fourth-is) in
+        ap (λ (xs : List ℤ). xs at m) e ∙ tab_at_zero (λ m. total m q) 4 m (pos 0) h
 
-pub overflow_add-fourth : goal.overflow_add-fourth
-overflow_add-fourth c = fourth_fits (goal.at.overflow_add-fourth c).After-totals-e
+    -- each, as the loop reads it, is the sum over its grid
+    sum_is : mem w32 (sums at m) ≡ total m q
+    sum_is =
+        let f : SFits w32 (sums at m) = rw sum_at (omega (zar, total_in q forty all_small m (omega arith), abs_is (total m q))) in
+        back f ∙ sum_at
 
--- ---- the four steps of the search
+    abbrev double : ℤ
+    double = mem w32 (sums at m) +ℤ mem w32 (sums at m)
 
-pub overflow_add-e : goal.overflow_add-e
-overflow_add-e c = let t = (goal.at.overflow_add-e c).After-totals-e in double_fits t 0 (omega arith) (first_is t)
+    -- its double fits 32 bits
+    double_fits : SFits w32 double
+    double_fits =
+        rw sum_is (omega (zar, total_in q forty all_small m (omega arith), abs_is (total m q), add_is (total m q) (total m q)))
 
-pub overflow_add-e-2 : goal.overflow_add-e-2
-overflow_add-e-2 c = let t = (goal.at.overflow_add-e-2 c).After-totals-e in double_fits t 1 (omega arith) (second_is t)
+    -- which is the energy
+    double_is : mem w32 double ≡ energies x at m
+    double_is =
+        let l : length x ≡ 40 = search rules in
+        let q-is = t.squares-q.ensures.is in
+        back double_fits
+        ∙ (ap (λ (z : ℤ). z +ℤ z) (sum_is ∙ ap (total m) q-is)
+        ∙ (sym (energy_is m x (omega arith) l (rw q-is at all_small)) ∙ sym (tab_at_zero (energy x) 4 m (pos 0) h)))
 
-pub overflow_add-e-3 : goal.overflow_add-e-3
-overflow_add-e-3 c = let t = (goal.at.overflow_add-e-3 c).After-totals-e in double_fits t 2 (omega arith) (third_is t)
+pub overflow_sub-energies : goal.overflow_sub-energies
+overflow_sub-energies c = less_fits (goal.at.overflow_sub-energies c).After-totals-first
 
-pub overflow_add-fourth-2 : goal.overflow_add-fourth-2
-overflow_add-fourth-2 c = let t = (goal.at.overflow_add-fourth-2 c).After-totals-e in double_fits t 3 (omega arith) (last_is t)
+pub overflow_add-energies : goal.overflow_add-energies
+overflow_add-energies c = fourth_fits (goal.at.overflow_add-energies c).After-totals-first
 
--- the best of one grid, of two, of three, of four
+pub loop-m-init : goal.loop-m-init
+loop-m-init c = sym best_start
+
+pub overflow_add-energy : goal.overflow_add-energy
+overflow_add-energy c = double_fits (goal.at.overflow_add-energy c).After-totals-first c.loop-m.m (omega arith)
+
+-- a step of the search goes from the best of the grids before to the best with this one
+pub loop-m-preserved : goal.loop-m-preserved
+loop-m-preserved c =
+    let t = (goal.at.loop-m-preserved c).After-totals-first in
+    let m = c.loop-m.m in
+    let xs = energies (x t) in
+    let l : m < length xs = omega (arith, tab_length (energy (x t)) 0 4) in
+    let d = double_is t m (omega arith) in
+    c.better-found.ensures
+    ∙ by_cond (λ z. z ≡ best (take (m + 1) xs)) (lt_z c.loop-m.found.sum _)
+    (best_new xs m c.loop-m.invariant l d) (best_old xs m c.loop-m.invariant l d)
+
 pub returns : goal.returns
 unfolding Mc
 returns c =
-    let t = (goal.at.returns c).After-totals-e in
-    let best1 = turn t 0 (omega arith) (first_is t) (sym best_start) c.better-a.ensures in
-    let best2 = turn t 1 (omega arith) (second_is t) best1 c.better-b.ensures in
-    let best3 = turn t 2 (omega arith) (third_is t) best2 c.better-c.ensures in
-    let best4 = turn t 3 (omega arith) (last_is t) best3 c.better-found.ensures in
-    let s = x t in
-    ap (λ (b : Best). b.at) (best4 ∙ ap best (take_all 4 (energies s) (omega (arith, tab_length (energy s) 0 4))))
+    let xs = energies c.args.x in
+    ap (λ (b : Best). b.at) (c.loop-m.invariant ∙ ap best (take_all c.loop-m.m xs (omega (arith, tab_length (energy c.args.x) 0 4))))

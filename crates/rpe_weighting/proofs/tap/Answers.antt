@@ -50,12 +50,3 @@ returns c =
       is = e;
       near = rw e (omega (arith, product_in c, abs_is (h c), abs_is (h c *ℤ (a c +ℤ b c))));
     }
-
-pub overflow_cast-result : goal.overflow_cast-result
-overflow_cast-result c = cast_fits c.ranges.a
-
-pub overflow_cast-result-2 : goal.overflow_cast-result-2
-overflow_cast-result-2 c = cast_fits c.ranges.b
-
-pub overflow_add-result : goal.overflow_add-result
-overflow_add-result = sum_room

@@ -1,6 +1,6 @@
 -- After n iterations each of the three is the plain sum of the first n squares of its grid, and that sum fits 32 bits.
 use Prim.Native.Nat.{ℕ, ◌+◌, ◌*◌, ◌≤◌}
-use mathlib.Core.Path.{◌≡◌, refl, ap, ap₂, ◌∙◌}
+use mathlib.Core.Path.{◌≡◌, ap, ap₂, ◌∙◌}
 use mathlib.Core.List.{List}
 use native.Mathlib.Omega.{arith}
 use lib.IntN.{ℤ, ◌+ℤ◌}
@@ -39,17 +39,17 @@ module _ (t : In-loop-n) where
 pub overflow_add-first : goal.overflow_add-first
 overflow_add-first c =
     let t = c.before in
-    more_fits t 0 (omega arith) t.loop-n.invariant.1 _ (omega arith) (sfits_of c.first-1.given)
+    more_fits t 0 (omega arith) t.loop-n.invariant.0 _ (omega arith) (sfits_of c.first-1.given)
 
 pub overflow_add-second-in-loop-n : goal.overflow_add-second-in-loop-n
 overflow_add-second-in-loop-n c =
     let t = c.before.before in
-    more_fits t 1 (omega arith) t.loop-n.invariant.2 _ (omega arith) (sfits_of c.second-1.given)
+    more_fits t 1 (omega arith) t.loop-n.invariant.1 _ (omega arith) (sfits_of c.second-1.given)
 
 pub overflow_add-third-in-loop-n : goal.overflow_add-third-in-loop-n
 overflow_add-third-in-loop-n c =
     let t = c.before.before.before in
-    more_fits t 2 (omega arith) t.loop-n.invariant.3 _ (omega arith) (sfits_of c.third-1.given)
+    more_fits t 2 (omega arith) t.loop-n.invariant.2 _ (omega arith) (sfits_of c.third-1.given)
 
 pub loop-n-preserved : goal.loop-n-preserved
 loop-n-preserved c =
@@ -57,10 +57,9 @@ loop-n-preserved c =
     let a = b.before in
     let t = a.before in
     let v = t.loop-n.invariant in (
-      omega arith,
-      next_is t 0 (omega arith) v.1 _ (omega arith) (sfits_of a.first-1.given),
-      next_is t 1 (omega arith) v.2 _ (omega arith) (sfits_of b.second-1.given),
-      next_is t 2 (omega arith) v.3 _ (omega arith) (sfits_of c.third-1.given),
+      next_is t 0 (omega arith) v.0 _ (omega arith) (sfits_of a.first-1.given),
+      next_is t 1 (omega arith) v.1 _ (omega arith) (sfits_of b.second-1.given),
+      next_is t 2 (omega arith) v.2 _ (omega arith) (sfits_of c.third-1.given),
     )
 
 pub returns : goal.returns
@@ -69,7 +68,4 @@ returns c =
     let q = t.args.q in
     let v = t.loop-n.invariant in
     let l : 13 ≤ t.loop-n.n = c.loop-n-test.false in
-    record { first = v.1 ∙ part_end 0 q _ l; second = v.2 ∙ part_end 1 q _ l; third = v.3 ∙ part_end 2 q _ l }
-
-pub loop-n-init : goal.loop-n-init
-loop-n-init c = (search rules, refl, refl, refl)
+    record { first = v.0 ∙ part_end 0 q _ l; second = v.1 ∙ part_end 1 q _ l; third = v.2 ∙ part_end 2 q _ l }

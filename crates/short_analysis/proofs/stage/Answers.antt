@@ -2,7 +2,7 @@
 use mathlib.Core.Path.{◌≡◌, ap, ◌∙◌}
 use mathlib.Core.List.{List, [], ◌∷◌, append-nil}
 use native.Mathlib.Omega.{arith}
-use borrow.Author.Rules.{rules, sfits_of}
+use borrow.Author.Rules.{sfits_of}
 use lib.IntN.{ℤ}
 use lib.ListN.{length, take, drop, set, length-set, drop_of_length-le}
 use lib.Seq.{set_split}
@@ -28,12 +28,6 @@ module _ (s : Start) where
   led_is =
       let l : length s.args.p.now ≡ 161 = s.requires.0.1 in
       rw (back s.ranges.u) (set_split s.args.p.now 0 s.args.u (omega arith))
-
-pub slice_bounds-section-end : goal.slice_bounds-section-end
-slice_bounds-section-end c = let l = led_length c in search rules
-
-pub slice_copy_out-result : goal.slice_copy_out-result
-slice_copy_out-result c = let l = led_length (goal.at.slice_copy_out-result c).Start in search rules
 
 -- only the part of q after its first element is passed on, so the first element stays
 after_first : (q y : List ℤ) → length q ≡ 161 → put 1 160 q y ≡ q at 0 ∷ y

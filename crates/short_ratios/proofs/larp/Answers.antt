@@ -8,32 +8,23 @@ use Rattle.standard.specs.ShortTerm.{stretches}
 use Rattle.short_ratios.specs.Stretches.{LARp, LARp_last}
 use Rattle.short_ratios.proofs.larp.Goals as goal
 
-pub returns-then-j-eq0 : goal.returns-then-j-eq0
+pub returns-in-0 : goal.returns-in-0
 unfolding LARp stretches
-returns-then-j-eq0 c =
-    let s = c.before.before.before in
-    let o = down_bits w16 s.args.old in
-    let n = down_bits w16 s.args.new in
-    rw c.if-j-eq0.true
-    (cc (o 2 s.ranges.old, n 2 s.ranges.new, o 1 s.ranges.old, res c.add, res c.add-then-j-eq0))
+returns-in-0 c =
+    let o = down_bits w16 c.args.old in
+    let n = down_bits w16 c.args.new in
+    rw c.in-0.is (cc (o 2 c.ranges.old, n 2 c.ranges.new, o 1 c.ranges.old, res c.add, res c.add-in-0))
 
-pub returns-then-j-eq1 : goal.returns-then-j-eq1
+pub returns-in-1 : goal.returns-in-1
 unfolding LARp stretches
-returns-then-j-eq1 c =
-    let s = c.before.before.before in
-    rw c.if-j-eq1.true
-    (cc (down_bits w16 s.args.old 1 s.ranges.old, down_bits w16 s.args.new 1 s.ranges.new, res c.add-then-j-eq1))
+returns-in-1 c =
+    rw c.in-1.is (cc (down_bits w16 c.args.old 1 c.ranges.old, down_bits w16 c.args.new 1 c.ranges.new, res c.add-in-1))
 
-pub returns-then-j-eq2 : goal.returns-then-j-eq2
+pub returns-in-2 : goal.returns-in-2
 unfolding LARp stretches
-returns-then-j-eq2 c =
-    let third = c.before.before in
-    let s = third.before.before.before in
-    let n = down_bits w16 s.args.new in
-    rw third.if-j-eq2.true
-    (cc (down_bits w16 s.args.old 2 s.ranges.old, n 2 s.ranges.new, n 1 s.ranges.new, res c.add-then-j-eq2, res c.add-then-j-eq2-2))
+returns-in-2 c =
+    let n = down_bits w16 c.args.new in
+    rw c.in-2.is (cc (down_bits w16 c.args.old 2 c.ranges.old, n 2 c.ranges.new, n 1 c.ranges.new, res c.add-in-2, res c.add-in-2-2))
 
-pub returns-else-j-eq2 : goal.returns-else-j-eq2
-returns-else-j-eq2 c =
-    let s = c.before.before.before in
-    back s.ranges.new ∙ sym (LARp_last s.args.j s.args.old s.args.new (omega arith))
+pub returns-in_default : goal.returns-in_default
+returns-in_default c = back c.ranges.new ∙ sym (LARp_last c.args.j c.args.old c.args.new (omega (arith, c.in_default)))

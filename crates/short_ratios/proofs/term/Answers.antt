@@ -8,18 +8,6 @@ use Rattle.law_arithmetic.specs.Within.{range_is, word_is}
 use Rattle.short_ratios.specs.Bounds.{factor_is}
 use Rattle.short_ratios.proofs.term.Goals as goal
 
-pub overflow_mul-result : goal.overflow_mul-result
-overflow_mul-result c =
-    let f = factor_is c.args.rp c.requires.0 in
-    let g = word_is c.args.x c.requires.1 in
-    search zfits
-
-pub overflow_add-result : goal.overflow_add-result
-overflow_add-result c =
-    let f = factor_is c.args.rp c.requires.0 in
-    let g = word_is c.args.x c.requires.1 in
-    search zfits
-
 pub returns : goal.returns
 returns c =
     let f = factor_is c.args.rp c.requires.0 in

@@ -7,10 +7,6 @@ use Rattle.law_arithmetic.specs.Product.{mult_r_fits}
 use Rattle.short_synthesis.specs.Biased.{less_fits, less_low}
 use Rattle.short_synthesis.proofs.fallen.Goals as goal
 
-pub biased-requires : goal.biased-requires
-biased-requires c =
-    (rw (back c.ranges.rrp) c.requires.0, rw (back c.ranges.rrp, back c.ranges.c) c.requires.1, rw (back c.ranges.v) c.requires.2)
-
 pub overflow_sub-result : goal.overflow_sub-result
 overflow_sub-result c =
     let s = c in

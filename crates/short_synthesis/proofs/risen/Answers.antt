@@ -7,10 +7,6 @@ use Rattle.law_arithmetic.specs.Product.{mult_r_fits}
 use Rattle.short_synthesis.specs.Biased.{more_fits, more_low}
 use Rattle.short_synthesis.proofs.risen.Goals as goal
 
-pub biased-requires : goal.biased-requires
-biased-requires c =
-    (rw (back c.ranges.rrp) c.requires.0, rw (back c.ranges.rrp, back c.ranges.c) c.requires.1, rw (back c.ranges.sri) c.requires.3)
-
 pub overflow_add-result : goal.overflow_add-result
 overflow_add-result c =
     let s = c in

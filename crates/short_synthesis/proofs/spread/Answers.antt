@@ -9,7 +9,7 @@ use Rattle.math_integers.specs.Halves.{mem}
 use Rattle.standard.specs.Tables.{◌at◌}
 use Rattle.law_arithmetic.specs.Within.{word_yes}
 use Rattle.short_synthesis.specs.declared.Line.{Line}
-use Rattle.short_synthesis.specs.Lattice.{cells, All, all_from, lined_same, eight_is, widened, widened_fits}
+use Rattle.short_synthesis.specs.Lattice.{cells, All, all_from, lined_same, eight_is, widened}
 use Rattle.short_synthesis.proofs.spread.Goals as goal
 
 abbrev line : List ℤ → Line
@@ -25,27 +25,3 @@ returns c =
       cells = ap cells e ∙ eight_is a (search rules);
       words = rw e (all_from (λ z. z) word_yes (line a) f);
     }
-
-pub overflow_cast-result : goal.overflow_cast-result
-overflow_cast-result c = search (rules, widened_fits)
-
-pub overflow_cast-result-2 : goal.overflow_cast-result-2
-overflow_cast-result-2 c = search (rules, widened_fits)
-
-pub overflow_cast-result-3 : goal.overflow_cast-result-3
-overflow_cast-result-3 c = search (rules, widened_fits)
-
-pub overflow_cast-result-4 : goal.overflow_cast-result-4
-overflow_cast-result-4 c = search (rules, widened_fits)
-
-pub overflow_cast-result-5 : goal.overflow_cast-result-5
-overflow_cast-result-5 c = search (rules, widened_fits)
-
-pub overflow_cast-result-6 : goal.overflow_cast-result-6
-overflow_cast-result-6 c = search (rules, widened_fits)
-
-pub overflow_cast-result-7 : goal.overflow_cast-result-7
-overflow_cast-result-7 c = search (rules, widened_fits)
-
-pub overflow_cast-result-8 : goal.overflow_cast-result-8
-overflow_cast-result-8 c = search (rules, widened_fits)

@@ -1,5 +1,4 @@
 -- A stretch of samples: the first loop carries the cells and msr from sample to sample, the second doubles and truncates.
-use Prim.Native.Nat.{◌≤◌}
 use mathlib.Core.Path.{◌≡◌}
 use mathlib.Core.Bool.{true}
 use mathlib.Core.List.{map, zip}
@@ -17,8 +16,7 @@ abbrev pub invariant-loop-k : goal.invariant-loop-k
 invariant-loop-k l =
     Along sounded (cells (base l.initial.v), l.initial.msr) (zip (replicate (length l.wt) (cells l.rp)) l.wt)
     (cells (base l.v), l.msr) l.k l.srop
-    × Each word (base l.v) × (word l.msr ≡ true) × (l.k ≤ length l.wt) × (length l.srop ≡ length l.wt)
+    × Each word (base l.v) × (word l.msr ≡ true)
 
-abbrev pub invariant-loop-k-2 : goal.invariant-loop-k-2
-invariant-loop-k-2 l =
-    (l.k ≤ length l.initial.srop) × (length l.srop ≡ length l.initial.srop) × (l.srop ≡ filled l.k (map srop l.initial.srop) l.initial.srop)
+abbrev pub invariant-loop-out : goal.invariant-loop-out
+invariant-loop-out l = l.srop ≡ filled l.out-index (map srop l.initial.srop) l.initial.srop

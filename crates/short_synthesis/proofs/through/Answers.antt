@@ -8,10 +8,6 @@ use Rattle.law_arithmetic.specs.Clip.{clip_fits}
 use Rattle.law_arithmetic.specs.Within.{word_yes}
 use Rattle.short_synthesis.proofs.through.Goals as goal
 
-pub lowered-requires : goal.lowered-requires
-lowered-requires c =
-    (rw (back c.ranges.rrp) c.requires.0, rw (back c.ranges.v) c.requires.1, rw (back c.ranges.sri) c.requires.2)
-
 pub raised-requires : goal.raised-requires
 raised-requires c =
     let s = c in

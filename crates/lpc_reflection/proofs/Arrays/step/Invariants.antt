@@ -1,9 +1,8 @@
 -- Iteration m makes one step of the standard's loop over P and K; what is left of that loop gives `PK_loop` at every iteration.
-use Prim.Native.Nat.{◌-◌, ◌≤◌}
-use mathlib.Core.Path.{◌≡◌}
+use Rattle.std.specs.Prelude.{◌≡◌, ◌-◌, ◌≤◌}
 use Rattle.math_lists.specs.Steps.{steps}
 use Rattle.law_loops.specs.Recursion.{PK_turn}
-use Rattle.lpc_reflection.proofs.step.Given as goal
+use Rattle.lpc_reflection.proofs.Arrays.step.Given as goal
 
 abbrev pub invariant-loop-m : goal.invariant-loop-m
 invariant-loop-m l =
