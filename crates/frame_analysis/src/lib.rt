@@ -2,7 +2,7 @@
 // recursion ended, and the 160 samples of the short term residual d.
 #![tactic(auto)]
 
-ghost use Rattle.std.specs.Prelude.{◌≡◌, true, pos, length, replicate};
+ghost use Rattle.std.specs.Prelude.{◌≡◌, true, length};
 ghost use Rattle.math_lists.specs.Every.{every};
 ghost use Rattle.standard.specs.Lpc.{r, ending, ratio_codes};
 ghost use Rattle.standard.specs.Coder.{analysis};
@@ -39,13 +39,6 @@ struct Ratios {
     ending: Ending,
 }
 
-// A buffer for 160 samples.
-fn room() -> [i16; 160]
-    ensures { result ≡ replicate 160 (pos 0) }
-{
-    [0; 160]
-}
-
 // 4.2.4 to 4.2.7. The samples are scaled for the sums, and scaled back afterwards.
 fn measured(s: &mut [i16]) -> Ratios
     requires { (length s.old ≡ 160) × (every word s.old ≡ true) }
@@ -56,12 +49,10 @@ fn measured(s: &mut [i16]) -> Ratios
     let scale = lpc_autocorrelation::scalauto(s);
     lpc_autocorrelation::scaled(scale, s);
     let found = lpc_reflection::reflection_coefficients(lpc_autocorrelation::l_acf(s));
-    let r = found.r;
-    let ending = found.ending;
     lpc_autocorrelation::rescaled(scale, s);
     Ratios {
-        larc: lpc_logarea::ratio_codes(r),
-        ending: ending,
+        larc: lpc_logarea::ratio_codes(found.r),
+        ending: found.ending,
     }
 }
 
@@ -73,33 +64,22 @@ pub fn frame(m: Filters, sop: &[i16], signal: &mut [i16]) -> Analysed
     ensures ending { ended result.ending ≡ (analysis (coder_of m) sop.now).ending }
     ensures samples { signal.new ≡ (analysis (coder_of m) sop.now).d }
 {
-    let last = m.mp;
-    let old = m.larpp;
-    let u = m.u;
-    let mut sof = room();
-    let kept = pre_processing::offset(
-        Kept {
-            z1: m.z1,
-            l_z2: m.l_z2,
-        },
-        sop,
-        &mut sof[0..160],
-    );
-    let mp = pre_processing::emphasis(last, &sof[0..160], signal);
-    let ratios = measured(signal);
-    let larc = ratios.larc;
-    let ending = ratios.ending;
-    let new = short_ratios::ratios(larc);
-    let after = short_analysis::filtered(u, old, new, signal);
-    Analysed {
-        next: Filters {
-            z1: kept.z1,
-            l_z2: kept.l_z2,
-            mp: mp,
-            larpp: new,
-            u: after,
-        },
-        larc: larc,
-        ending: ending,
-    }
+    let mut sof = [0i16; 160];
+    let start = Kept {
+        z1: m.z1,
+        l_z2: m.l_z2,
+    };
+    let kept = pre_processing::offset(start, sop, &mut sof);
+    let mp = pre_processing::emphasis(m.mp, &sof, signal);
+    let Ratios { larc, ending } = measured(signal);
+    let larpp = short_ratios::ratios(larc);
+    let u = short_analysis::filtered(m.u, m.larpp, larpp, signal);
+    let next = Filters {
+        z1: kept.z1,
+        l_z2: kept.l_z2,
+        mp,
+        larpp,
+        u,
+    };
+    Analysed { next, larc, ending }
 }

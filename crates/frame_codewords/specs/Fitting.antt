@@ -53,9 +53,18 @@ unfolding fits widths LARc_widths
 fits_ratios xs = parted 8 widths xs
 
 -- the widths from a sub-frame's start on begin with a sub-frame's
-sub_part : (j : ℕ) → j < 4 → take 17 (drop (8 + 17 * j) widths) ≡ sub_widths
+pub sub_part : (j : ℕ) → j < 4 → take 17 (drop (8 + 17 * j) widths) ≡ sub_widths
 unfolding widths LARc_widths sub_widths flatten tab
 sub_part j h = tab_each (λ j. take 17 (drop (8 + 17 * j) widths)) (λ _. sub_widths) 4 0 refl j (omega arith) h
+
+-- first its four parameters, then its thirteen pulses
+pub sub_front : (j : ℕ) → j < 4 → take 4 (drop (8 + 17 * j) widths) ≡ take 4 sub_widths
+unfolding widths LARc_widths sub_widths flatten tab
+sub_front j h = tab_each (λ j. take 4 (drop (8 + 17 * j) widths)) (λ _. take 4 sub_widths) 4 0 refl j (omega arith) h
+
+pub sub_back : (j : ℕ) → j < 4 → take 13 (drop (8 + 17 * j + 4) widths) ≡ drop 4 sub_widths
+unfolding widths LARc_widths sub_widths flatten tab
+sub_back j h = tab_each (λ j. take 13 (drop (8 + 17 * j + 4) widths)) (λ _. drop 4 sub_widths) 4 0 refl j (omega arith) h
 
 -- so what is left to test there is the sub-frame, and what follows it
 pub fits_sub : (j : ℕ) (xs : List ℤ) → j < 4

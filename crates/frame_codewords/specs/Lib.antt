@@ -1,5 +1,4 @@
--- All that the specs of this crate have: the widths of the fields, the low bits of a codeword, the loop that keeps them, the loop that
--- tests them.
+-- All that the specs of this crate have: the widths of the fields, the low bits of a codeword, the loop that tests codewords.
 pub mod Widths
 pub mod Bits
 pub mod Masked

@@ -1,4 +1,5 @@
--- The loop that keeps the valid bits of some codewords, each in its own width.
+-- For a loop that keeps the valid bits of some codewords, each in its own width. No function has such a loop now: `valid` makes an
+-- array.
 use Rattle.std.specs.Prelude.{ℕ, ◌+◌, ◌<◌, ◌≤◌, ◌≡◌, refl, ℤ, pos, length, get_or, set, replicate}
 use Rattle.std.proofs.Common.{sym, ◌∙◌, arith, length-set}
 use mathlib.Core.List.{List, zip_with}

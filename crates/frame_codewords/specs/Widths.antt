@@ -1,4 +1,4 @@
--- The widths of the fields: which width each of the code's tests selects, and that none is above 7.
+-- The widths of the fields: by the place in a frame and in a sub-frame, and that none is above 7.
 use Rattle.std.specs.Prelude.{ℕ, ◌+◌, ◌*◌, ◌-◌, ◌%◌, ◌<◌, ◌≤◌, ◌≡◌, refl, true, leb, length, get_or}
 use Rattle.std.proofs.Common.{⊎_elim, arith, leb-true}
 use mathlib.Core.List.{List, flatten}

@@ -6,17 +6,6 @@ ghost use Rattle.std.specs.Prelude.{◌≡◌, true, length, take, drop};
 ghost use Rattle.standard.specs.LongTerm.{is_lag};
 ghost use Rattle.frame_received.specs.Received.{sub_lag, sub_extended, frame_lag, frame_extended};
 
-// The thirteen pulses among a sub-frame's codewords.
-fn pulses(c: [i16; 17]) -> [i16; 13]
-    ensures { result ≡ drop 4 c }
-{
-    let mut xmc = [0i16; 13];
-    for i in 0..13usize {
-        xmc[i] = c[4 + i];
-    }
-    xmc
-}
-
 // One sub-frame: makes the 40 samples that follow the 120 of the history, and returns the lag in use.
 fn sub_decoded(nrp: i16, c: &[i16], drp: &mut [i16]) -> i16
     requires { (length c.now ≡ 17) × ((length drp.old ≡ 160) × (is_lag nrp ≡ true)) }
@@ -24,13 +13,16 @@ fn sub_decoded(nrp: i16, c: &[i16], drp: &mut [i16]) -> i16
     ensures samples { drp.new ≡ sub_extended (take 120 drp.old) nrp c.now }
 {
     let v = frame_codewords::sub_valid(c);
-    let xmp = rpe_inverse::inverse(v[3], pulses(v));
-    let ep = rpe_inverse::positioned(op_words::place_of(v[2]), xmp);
-    let lag = long_filter::used_lag(nrp, v[0]);
+    let [ncr, bcr, mcr, xmaxcr, ..] = v;
+    let mut xmcr = [0i16; 13];
+    xmcr.copy_from_slice(&v[4..]);
+    let xmp = rpe_inverse::inverse(xmaxcr, xmcr);
+    let ep = rpe_inverse::positioned(op_words::place_of(mcr), xmp);
+    let lag = long_filter::used_lag(nrp, ncr);
     let dpp = long_filter::estimate(
         &drp[0..120],
         op_words::place_of(lag),
-        op_words::place_of(v[1]),
+        op_words::place_of(bcr),
     );
     long_filter::reconstructed(ep, dpp, &mut drp[120..160]);
     lag

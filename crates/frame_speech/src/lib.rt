@@ -7,7 +7,9 @@ ghost use Rattle.frame_speech.specs.Four.{frame_spoken};
 
 use short_synthesis::Cells;
 
-// From the reconstructed wt[0..159] to the samples. old and new are the ratios of the frame before and of this one.
+// From the reconstructed wt[0..159] to the samples. old and new are the ratios of the frame before and of this one. The
+// four calls name the four stretches as the standard's table does; a loop over them would hide the samples of each
+// behind a running index.
 pub fn frame(s: Cells, old: [i16; 8], new: [i16; 8], wt: &[i16], srop: &mut [i16]) -> Cells
     requires { (length wt.now ≡ 160) × (length srop.old ≡ 160) }
     ensures v { result.v ≡ (frame_spoken s.v s.msr old new wt.now).0.0 }

@@ -2,7 +2,7 @@
 // history.
 #![tactic(auto)]
 
-ghost use Rattle.std.specs.Prelude.{◌≡◌, ◌∷◌, pos, length};
+ghost use Rattle.std.specs.Prelude.{◌≡◌, ◌≤◌, ◌∷◌, pos, length};
 ghost use Rattle.std.specs.Int.Signed.{lt_z};
 ghost use Rattle.standard.specs.Frame.{sub_words};
 ghost use Rattle.standard.specs.LongTerm.{Nc};
@@ -10,20 +10,6 @@ ghost use Rattle.standard.specs.Rpe.{Mc};
 ghost use Rattle.frame_subframe.specs.Whole.{block_code, pulse_codes, made, extended};
 
 use long_search::Search;
-
-// Stores the 17 codewords in order.
-fn written(lag: i16, bc: i16, mc: i16, xmaxc: i16, xmc: [i16; 13], c: &mut [i16])
-    requires { length c.old ≡ 17 }
-    ensures { c.new ≡ lag ∷ bc ∷ mc ∷ xmaxc ∷ xmc }
-{
-    c[0] = lag;
-    c[1] = bc;
-    c[2] = mc;
-    c[3] = xmaxc;
-    for i in 0..13usize {
-        c[4 + i] = xmc[i];
-    }
-}
 
 // 4.2.14, 4.2.15: the grid, the block amplitude's code and those of the pulses.
 #[derive(Clone, Copy)]
@@ -42,10 +28,19 @@ fn selected(x: [i16; 40]) -> Choice
     let xm = rpe_weighting::grid(mc, x);
     let xmaxc = rpe_quantise::xmaxc(op_sums::peak(&xm[0..13]));
     Choice {
-        mc: mc,
-        xmaxc: xmaxc,
+        mc,
+        xmaxc,
         xmc: rpe_quantise::pulse_codes(xmaxc, xm),
     }
+}
+
+// Stores the 17 codewords in order: the lag, the gain's code, and what was selected.
+fn written(lag: i16, bc: i16, choice: Choice, c: &mut [i16])
+    requires { (length c.old ≡ 17) × (choice.mc ≤ 3) }
+    ensures { c.new ≡ lag ∷ bc ∷ pos choice.mc ∷ choice.xmaxc ∷ choice.xmc }
+{
+    c[..4].copy_from_slice(&[lag, bc, choice.mc as i16, choice.xmaxc]);
+    c[4..].copy_from_slice(&choice.xmc);
 }
 
 // One sub-frame. dp holds the last 120 samples of the history, and after them 40 entries for what the sub-frame adds.
@@ -59,18 +54,12 @@ pub fn sub_coded(d: &[i16], dp: &mut [i16], c: &mut [i16]) -> Search
     ensures history { dp.new ≡ extended dp.old d.now }
 {
     let found = long_search::lag_and_gain(d, &dp[0..120]);
-    let search = found.search;
-    let lag = search.lag;
-    let bc = found.bc;
-    let dpp = long_filter::estimate(&dp[0..120], lag, bc);
+    let dpp = long_filter::estimate(&dp[0..120], found.search.lag, found.bc);
     let e = long_filter::residual(d, dpp);
-    let x = rpe_weighting::weighted(e);
-    let choice = selected(x);
-    let mc = choice.mc;
-    let xmaxc = choice.xmaxc;
-    let xmc = choice.xmc;
-    written(lag as i16, bc as i16, mc as i16, xmaxc, xmc, c);
-    let ep = rpe_inverse::positioned(mc, rpe_inverse::inverse(xmaxc, xmc));
+    let choice = selected(rpe_weighting::weighted(e));
+    written(found.search.lag as i16, found.bc as i16, choice, c);
+    let xmp = rpe_inverse::inverse(choice.xmaxc, choice.xmc);
+    let ep = rpe_inverse::positioned(choice.mc, xmp);
     long_filter::reconstructed(ep, dpp, &mut dp[120..160]);
-    search
+    found.search
 }

@@ -1,14 +1,12 @@
 -- The stages in the definition's order. The result of each is the definition's, because the result of the stage before is.
-use Prim.Native.Nat.{◌≤◌}
 use mathlib.Core.Path.{◌≡◌, sym, ap, ap₂, ◌∙◌}
-use mathlib.Core.List.{List, ◌++◌, zip}
+use mathlib.Core.List.{List, zip}
 use lib.IntN.{ℤ}
-use lib.ListN.{length, take}
+use lib.ListN.{length}
 use mir.Syntax.{w16, w32}
 use mir.Val.{SFits, to_z, of_z}
 use borrow.Author.Rules.{rules}
 use Rattle.math_integers.specs.Ranges.{back}
-use Rattle.math_lists.specs.Parts.{front_back, front_room}
 use Rattle.math_lists.specs.Scan.{run, run_length}
 use Rattle.standard.specs.Preprocessing.{offset, emphasis, downscaled}
 use Rattle.standard.specs.Lpc.{r, ending, ratio_codes}
@@ -20,7 +18,7 @@ use Rattle.pre_processing.specs.Promise.{kept, emphasis_words}
 use Rattle.frame_analysis.specs.Whole as whole
 use Rattle.frame_analysis.specs.Whole.{coder_of, sums, back_again, next_is, gives}
 use Rattle.frame_analysis.proofs.frame.Goals as goal
-use Rattle.frame_analysis.proofs.frame.Goals.{After-emphasis-mp, After-filtered-after, After-measured-ratios, After-offset-kept, After-ratios-new, After-room-sof, Start}
+use Rattle.frame_analysis.proofs.frame.Goals.{After-emphasis-mp, After-filtered-u, After-measured-ending, After-offset-kept, After-ratios-larpp, Start}
 
 -- the state that the filters start from, and the samples
 module _ (s : Start) where
@@ -53,10 +51,8 @@ module _ (s : Start) where
 pub offset-kept-requires : goal.offset-kept-requires
 unfolding kept sound_coder
 offset-kept-requires c =
-    let buffer = (goal.at.offset-kept-requires c).After-room-sof in
     let s = (goal.at.offset-kept-requires c).Start in
-    let room = ap length (ap (take 160) buffer.room-sof.ensures) in
-    (room ∙ sym s.requires.0, rw (back (z1_fits s), back (l_z2_fits s)) s.requires.1.1)
+    (sym s.requires.0, rw (back (z1_fits s), back (l_z2_fits s)) s.requires.1.1)
 
 -- 4.2.1, 4.2.2
 module _ (t : After-offset-kept) where
@@ -83,17 +79,10 @@ module _ (t : After-offset-kept) where
   unfolding kept
   offset_kept = rw (back z1_after, back l_z2_after) offset_state
 
-  -- the samples as the next stage reads them, at the start of the buffer
-  sof_back : (rest : List ℤ) → take 160 (t.offset-kept.new.sof ++ rest) ≡ (whole.sof (c_of start) (sop_of start)).1
-  sof_back = front_back 160 offset_samples (sof_length start)
-
-  sof_room : (rest : List ℤ) → 160 ≤ length (t.offset-kept.new.sof ++ rest)
-  sof_room = front_room 160 offset_samples (sof_length start)
-
 pub emphasis-mp-requires : goal.emphasis-mp-requires
 emphasis-mp-requires c =
     let t = (goal.at.emphasis-mp-requires c).After-offset-kept in
-    (start t).requires.1.0 ∙ sym (ap length (sof_back t _) ∙ sof_length (start t))
+    (start t).requires.1.0 ∙ sym (ap length (offset_samples t) ∙ sof_length (start t))
 
 -- 4.2.3
 module _ (e : After-emphasis-mp) where
@@ -104,65 +93,69 @@ module _ (e : After-emphasis-mp) where
   first = start filters
 
   mp_is : e.emphasis-mp.result ≡ (whole.s (c_of first) (sop_of first)).0
-  mp_is = e.emphasis-mp.ensures.mp ∙ ap₂ (λ (mp : ℤ) (xs : List ℤ). (run emphasis mp xs).0) (back (mp_fits first)) (sof_back filters _)
+  mp_is =
+      e.emphasis-mp.ensures.mp
+      ∙ ap₂ (λ (mp : ℤ) (xs : List ℤ). (run emphasis mp xs).0) (back (mp_fits first)) (offset_samples filters)
 
   s_is : e.emphasis-mp.new.s ≡ (whole.s (c_of first) (sop_of first)).1
-  s_is = e.emphasis-mp.ensures.samples ∙ ap₂ (λ (mp : ℤ) (xs : List ℤ). (run emphasis mp xs).1) (back (mp_fits first)) (sof_back filters _)
+  s_is =
+      e.emphasis-mp.ensures.samples
+      ∙ ap₂ (λ (mp : ℤ) (xs : List ℤ). (run emphasis mp xs).1) (back (mp_fits first)) (offset_samples filters)
 
-pub measured-ratios-requires : goal.measured-ratios-requires
-measured-ratios-requires c =
-    let e = (goal.at.measured-ratios-requires c).After-emphasis-mp in
+pub measured-ending-requires : goal.measured-ending-requires
+measured-ending-requires c =
+    let e = (goal.at.measured-ending-requires c).After-emphasis-mp in
     rw (s_is e) (s_length (first e), emphasis_words (c_of (first e)).mp (whole.sof (c_of (first e)) (sop_of (first e))).1)
 
 -- 4.2.4 to 4.2.7
-module _ (t : After-measured-ratios) where
+module _ (t : After-measured-ending) where
   abbrev heard : After-emphasis-mp
-  heard = (goal.at.After-measured-ratios t).After-emphasis-mp
+  heard = (goal.at.After-measured-ending t).After-emphasis-mp
 
   abbrev from : Start
   from = first heard
 
-  codes_are : t.measured-ratios.result.larc ≡ whole.codes (c_of from) (sop_of from)
-  codes_are = t.measured-ratios.ensures.larc ∙ ap (λ (s : List ℤ). ratio_codes (r (sums s))) (s_is heard)
+  codes_are : t.measured-ending.result.larc ≡ whole.codes (c_of from) (sop_of from)
+  codes_are = t.measured-ending.ensures.larc ∙ ap (λ (s : List ℤ). ratio_codes (r (sums s))) (s_is heard)
 
-  back_is : t.measured-ratios.new.s ≡ back_again (whole.s (c_of from) (sop_of from)).1
-  back_is = t.measured-ratios.ensures.samples ∙ ap back_again (s_is heard)
+  back_is : t.measured-ending.new.s ≡ back_again (whole.s (c_of from) (sop_of from)).1
+  back_is = t.measured-ending.ensures.samples ∙ ap back_again (s_is heard)
 
-pub filtered-after-requires : goal.filtered-after-requires
-filtered-after-requires c =
-    let t = (goal.at.filtered-after-requires c).After-measured-ratios in
+pub filtered-u-requires : goal.filtered-u-requires
+filtered-u-requires c =
+    let t = (goal.at.filtered-u-requires c).After-measured-ending in
     ap length (back_is t) ∙ d_length (from t)
 
 -- 4.2.8 to 4.2.10
-module _ (n : After-filtered-after) where
-  abbrev decoded : After-ratios-new
-  decoded = (goal.at.After-filtered-after n).After-ratios-new
+module _ (n : After-filtered-u) where
+  abbrev decoded : After-ratios-larpp
+  decoded = (goal.at.After-filtered-u n).After-ratios-larpp
 
-  abbrev coded : After-measured-ratios
-  coded = (goal.at.After-filtered-after n).After-measured-ratios
+  abbrev coded : After-measured-ending
+  coded = (goal.at.After-filtered-u n).After-measured-ending
 
   abbrev at-start : Start
   at-start = from coded
 
-  new_is : decoded.ratios-new.result ≡ ratios (whole.codes (c_of at-start) (sop_of at-start))
-  new_is = decoded.ratios-new.ensures ∙ ap ratios (codes_are coded)
+  new_is : decoded.ratios-larpp.result ≡ ratios (whole.codes (c_of at-start) (sop_of at-start))
+  new_is = decoded.ratios-larpp.ensures ∙ ap ratios (codes_are coded)
 
   -- the lattice, from the old ratios to the new
   abbrev lattice : List ℤ → List ℤ → List ℤ × List ℤ
   lattice new xs = run analysed (c_of at-start).u (zip (coefficients (c_of at-start).LARpp new) xs)
 
-  u_is : n.filtered-after.result ≡ (whole.d (c_of at-start) (sop_of at-start)).0
+  u_is : n.filtered-u.result ≡ (whole.d (c_of at-start) (sop_of at-start)).0
   u_is =
-      let new = decoded.ratios-new.result in
-      let given : n.filtered-after.result ≡ (lattice new coded.measured-ratios.new.s).0 = n.filtered-after.ensures.u in
+      let new = decoded.ratios-larpp.result in
+      let given : n.filtered-u.result ≡ (lattice new coded.measured-ending.new.s).0 = n.filtered-u.ensures.u in
       given ∙ ap₂ (λ (new xs : List ℤ). (lattice new xs).0) new_is (back_is coded)
 
-  d-is : n.filtered-after.new.s ≡ (whole.d (c_of at-start) (sop_of at-start)).1
-  d-is = n.filtered-after.ensures.d ∙ ap₂ (λ (new xs : List ℤ). (lattice new xs).1) new_is (back_is coded)
+  d-is : n.filtered-u.new.s ≡ (whole.d (c_of at-start) (sop_of at-start)).1
+  d-is = n.filtered-u.ensures.d ∙ ap₂ (λ (new xs : List ℤ). (lattice new xs).1) new_is (back_is coded)
 
 pub returns : goal.returns
 returns c =
-    let n = (goal.at.returns c).After-filtered-after in
+    let n = (goal.at.returns c).After-filtered-u in
     let t = coded n in
     let e = heard t in
     let o = filters e in
@@ -172,9 +165,6 @@ returns c =
     let (codes-given, ending-given, d-given) = gives m sop in record {
       next = next_is m sop (offset_kept o) (back {w = w16} (record { sfits = c.emphasis-mp.type_inv }) ∙ mp_is e) (new_is n) (u_is n);
       larc = codes_are t ∙ sym codes-given;
-      ending = c.measured-ratios.ensures.ending ∙ (ap (λ (s : List ℤ). ending (sums s)) (s_is e) ∙ sym ending-given);
+      ending = c.measured-ending.ensures.ending ∙ (ap (λ (s : List ℤ). ending (sums s)) (s_is e) ∙ sym ending-given);
       samples = d-is n ∙ sym d-given;
     }
-
-pub slice_bounds-emphasis-end : goal.slice_bounds-emphasis-end
-slice_bounds-emphasis-end c = let h = sof_room (goal.at.slice_bounds-emphasis-end c).After-offset-kept in search (rules, h)

@@ -4,7 +4,8 @@ use mathlib.Core.Path.{◌≡◌, ap, ◌∙◌}
 use mathlib.Core.List.{◌++◌}
 use native.Mathlib.Omega.{arith}
 use borrow.Author.Rules.{rules}
-use lib.ListN.{take}
+use lib.ListN.{length, take, drop, length-drop}
+use lib.Seq.{take_all}
 use mir.Syntax.{w16}
 use mir.Val.{SFits}
 use Rattle.math_integers.specs.Halves.{P}
@@ -48,21 +49,25 @@ lag-at c = c.place_of-2.ensures ∙ ap P (res c.used_lag-lag)
 
 pub estimate-dpp-requires : goal.estimate-dpp-requires
 estimate-dpp-requires c =
-    let l = c.before.before in
-    let u = l.before.before in
+    let at-c = goal.at.estimate-dpp-requires c in
+    let l = at-c.After-place_of-2 in
+    let u = at-c.After-used_lag-lag in
     let in-range = Nr_range c.args.nrp (c.sub_valid-v.result at 0) c.requires.1.1 in
     let t = (lag_place c.used_lag-lag.result (rw (lag u) in-range)).1 in
     (search rules, rw (lag-at l) (t.least, t.most))
 
 pub returns : goal.returns
 returns c =
-    let l = c.before.before.before.before.before.before in
-    let u = l.before.before in
-    let o = u.before.before.before in
+    let at-c = goal.at.returns c in
+    let l = at-c.After-place_of-2 in
+    let u = at-c.After-used_lag-lag in
+    let o = at-c.After-place_of in
     let v = c.sub_valid-v in
     let amp : SFits w16 (v.result at 3) = search rules in
     let gain : SFits w16 (v.result at 1) = search rules in
-    let xmp = rw (back amp, c.pulses.ensures) at c.inverse-xmp.ensures in
+    let long : length v.result ≡ 17 = search rules in
+    let pulses = c.copy_from_slice.ensures.after ∙ take_all 13 (drop 4 v.result) (rw length-drop (omega arith)) in
+    let xmp = rw (back amp, pulses) at c.inverse-xmp.ensures in
     let ep = rw (grid o) at c.positioned-ep.ensures in
     let dpp = rw (lag-at l, c.place_of-3.ensures, back gain) at c.estimate-dpp.ensures in
     let drp = c.args.drp.now in

@@ -1,11 +1,11 @@
 -- The stages in the definition's order, from the lag search to the new samples of the history. The result of each is the definition's,
 -- because the result of the stage before is.
-use Prim.Native.Nat.{ℕ, ◌≤◌}
+use Prim.Native.Nat.{ℕ}
 use mathlib.Core.Path.{◌≡◌, sym, ap, ap₂, ◌∙◌}
 use mathlib.Core.List.{List, ◌∷◌, ◌++◌, zip_with}
 use native.Mathlib.Omega.{arith}
 use lib.IntN.{ℤ, pos}
-use lib.ListN.{length, take}
+use lib.ListN.{take}
 use lib.Signed.{lt_z}
 use mir.Syntax.{w16}
 use mir.Val.{SFits}
@@ -32,17 +32,13 @@ dp-of s = take 120 s.args.dp.now
 abbrev d-of : Start → List ℤ
 d-of s = s.args.d.now
 
--- the buffer of the history has 40 entries more
-length-kept : (s : Start) → 160 ≤ length s.args.dp.now
-length-kept s = omega (arith, s.requires.1.0)
-
 pub lag_and_gain-found-requires : goal.lag_and_gain-found-requires
 lag_and_gain-found-requires c = (c.requires.0, search rules)
 
 -- 4.2.11: the lag and the gain code
 module _ (g : After-lag_and_gain-found) where
   abbrev start : Start
-  start = g.before.before
+  start = (goal.at.After-lag_and_gain-found g).Start
 
   abbrev dp : List ℤ
   dp = dp-of start
@@ -58,14 +54,14 @@ module _ (g : After-lag_and_gain-found) where
 
 pub estimate-dpp-requires : goal.estimate-dpp-requires
 estimate-dpp-requires c =
-    let g = c.before.before in
+    let g = (goal.at.estimate-dpp-requires c).After-lag_and_gain-found in
     let t = found_lag (d g) (dp g) in
     (search rules, (omega (arith, lag-is g, t.least), omega (arith, lag-is g, t.most)))
 
 -- 4.2.12: the estimate
 module _ (p : After-estimate-dpp) where
   abbrev searched : After-lag_and_gain-found
-  searched = p.before.before.before
+  searched = (goal.at.After-estimate-dpp p).After-lag_and_gain-found
 
   estimate_is : p.estimate-dpp.result ≡ estimate (dp searched) (d searched)
   estimate_is =
@@ -76,7 +72,7 @@ module _ (p : After-estimate-dpp) where
 -- 4.2.12: the residual
 module _ (q : After-residual-e) where
   abbrev estimated : After-estimate-dpp
-  estimated = q.before
+  estimated = (goal.at.After-residual-e q).After-estimate-dpp
 
   abbrev predicted : After-lag_and_gain-found
   predicted = searched estimated
@@ -88,7 +84,7 @@ module _ (q : After-residual-e) where
 module _ (k : After-selected-choice) where
   -- the residual, the estimate and the search before it
   abbrev filtering : After-residual-e
-  filtering = k.before.before
+  filtering = (goal.at.After-selected-choice k).After-residual-e
 
   abbrev found : After-lag_and_gain-found
   found = predicted filtering
@@ -96,8 +92,8 @@ module _ (k : After-selected-choice) where
   abbrev x : List ℤ
   x = filtered (dp found) (d found)
 
-  x-is : k.weighted-x.result ≡ x
-  x-is = k.weighted-x.ensures ∙ ap weighted (e_is filtering)
+  x-is : k.weighted.result ≡ x
+  x-is = k.weighted.ensures ∙ ap weighted (e_is filtering)
 
   mc_is : k.selected-choice.result.mc ≡ Mc x
   mc_is = k.selected-choice.ensures.mc ∙ ap Mc x-is
@@ -108,62 +104,61 @@ module _ (k : After-selected-choice) where
   xmc_is : k.selected-choice.result.xmc ≡ pulse_codes x
   xmc_is = k.selected-choice.ensures.xmc ∙ ap pulse_codes x-is
 
-  -- the lag, the gain code, the grid and the amplitude's code are words
+  -- the lag, the gain code and the amplitude's code are words
   lag_word : SFits w16 (pos found.lag_and_gain-found.result.search.lag)
   lag_word = let t = found_lag (d found) (dp found) in omega (zar, lag-is found, t.most)
 
   gain_word : SFits w16 (pos found.lag_and_gain-found.result.bc)
   gain_word = omega (zar, gain_is found, gain_range (dp found) (d found))
 
-  grid_word : SFits w16 (pos k.selected-choice.result.mc)
-  grid_word = omega (zar, mc_is, grid_in x)
-
   code_word : SFits w16 k.selected-choice.result.xmaxc
   code_word = search rules
 
-  -- the three that the code casts to words, together
-  words_fit : let f = found.lag_and_gain-found.result in
-      SFits w16 (pos f.search.lag) × SFits w16 (pos f.bc) × SFits w16 (pos k.selected-choice.result.mc)
-  words_fit = (lag_word, gain_word, grid_word)
+pub overflow_cast-found : goal.overflow_cast-found
+overflow_cast-found c =
+    let k = (goal.at.overflow_cast-found c).After-selected-choice in
+    let f = lag_word k in
+    let g = gain_word k in
+    search rules
 
-pub overflow_cast-lag : goal.overflow_cast-lag
-overflow_cast-lag c = let (l, b, m) = words_fit c.before.before in search rules
+pub overflow_cast-found-2 : goal.overflow_cast-found-2
+overflow_cast-found-2 c =
+    let k = (goal.at.overflow_cast-found-2 c).After-selected-choice in
+    let f = lag_word k in
+    let g = gain_word k in
+    search rules
 
-pub overflow_cast-bc : goal.overflow_cast-bc
-overflow_cast-bc c = let (l, b, m) = words_fit c.before.before in search rules
-
-pub overflow_cast-mc : goal.overflow_cast-mc
-overflow_cast-mc c = let (l, b, m) = words_fit c.before.before in search rules
+pub written-requires : goal.written-requires
+written-requires c =
+    let k = (goal.at.written-requires c).After-selected-choice in
+    (c.requires.1.1, omega (arith, mc_is k, grid_in (x k)))
 
 -- the codewords, as they were written
 module _ (w : After-written) where
   abbrev chosen : After-selected-choice
-  chosen = w.before.before.before.before
+  chosen = (goal.at.After-written w).After-selected-choice
 
   stored : let f = (found chosen).lag_and_gain-found.result in
       let q = chosen.selected-choice.result in
       w.written.new.c ≡ pos f.search.lag ∷ pos f.bc ∷ pos q.mc ∷ q.xmaxc ∷ q.xmc
   stored =
-      rw (back (lag_word chosen), back (gain_word chosen), back (grid_word chosen), back (code_word chosen)) at w.written.ensures
+      rw (back (lag_word chosen), back (gain_word chosen)) at w.written.ensures
 
-pub inverse-requires : goal.inverse-requires
-inverse-requires c =
-    let k = chosen c.before in
+pub inverse-xmp-requires : goal.inverse-xmp-requires
+inverse-xmp-requires c =
+    let k = (goal.at.inverse-xmp-requires c).After-selected-choice in
     rw (back (code_word k), code_is k) (xmaxc_fits (peak (grid (Mc (x k)) (x k))) (peak_in (grid (Mc (x k)) (x k))))
 
 pub positioned-ep-requires : goal.positioned-ep-requires
-positioned-ep-requires c = let k = chosen c.before.before in omega (arith, mc_is k, grid_in (x k))
-
-pub slice_bounds-reconstructed-end : goal.slice_bounds-reconstructed-end
-slice_bounds-reconstructed-end c = let h = length-kept (start (found (chosen c.before.before.before))) in search rules
+positioned-ep-requires c = let k = (goal.at.positioned-ep-requires c).After-selected-choice in omega (arith, mc_is k, grid_in (x k))
 
 -- 4.2.16 to 4.2.18: the decoded pulses, added to the estimate
 module _ (r : After-reconstructed) where
   abbrev placed : After-positioned-ep
-  placed = r.before.before
+  placed = (goal.at.After-reconstructed r).After-positioned-ep
 
   abbrev sent : After-written
-  sent = placed.before.before.before
+  sent = (goal.at.After-reconstructed r).After-written
 
   abbrev code : After-selected-choice
   code = chosen sent
@@ -173,14 +168,14 @@ module _ (r : After-reconstructed) where
       let known = estimated (filtering code) in
       let new = r.reconstructed.new.new in
       let given : new ≡ zip_with add placed.positioned-ep.result known.estimate-dpp.result = r.reconstructed.ensures in
-      let pulses = rw (back (code_word code)) at placed.inverse.ensures in
+      let pulses = rw (back (code_word code)) at placed.inverse-xmp.ensures in
       given
       ∙ added_is (dp (found code)) (d (found code)) (mc_is code) (code_is code) (xmc_is code) pulses placed.positioned-ep.ensures
       (estimate_is known)
 
 pub returns : goal.returns
 returns c =
-    let r = c.before in
+    let r = (goal.at.returns c).After-reconstructed in
     let k = code r in
     let g = found k in
     let s = start g in
