@@ -26,9 +26,9 @@ HEADER, RAW, BOUNDARY = 'c/rpeltp.h', 'rust/src/raw.rs', 'crates/boundary/src/li
 EXPORTS = 'crates/boundary_c/src/lib.rt'
 # where the structs that the calls take and return are declared, and their names in C
 STRUCTS = {'Encoder': 'crates/encoder/src/lib.rt', 'Decoder': 'crates/decoder/src/lib.rt',
-           'EncodeAnswer': BOUNDARY, 'Decoded': 'crates/decoder/src/lib.rt'}
+           'EncodeAnswer': BOUNDARY, 'DecodeAnswer': BOUNDARY}
 C_NAMES = {'Encoder': 'rpeltp_encoder', 'Decoder': 'rpeltp_decoder',
-           'EncodeAnswer': 'rpeltp_encode_answer', 'Decoded': 'rpeltp_decode_answer'}
+           'EncodeAnswer': 'rpeltp_encode_answer', 'DecodeAnswer': 'rpeltp_decode_answer'}
 C_TYPES = {'int16_t': 'i16', 'int32_t': 'i32', 'uint16_t': 'u16', 'uint8_t': 'u8',
            **{name: ours for ours, name in C_NAMES.items()}}
 BYTES = {'u8': 1, 'i16': 2, 'u16': 2, 'i32': 4}
@@ -221,7 +221,7 @@ def as_rust(fields: Iterable[tuple[str, str]]) -> Iterator[tuple[str, str]]:
 
 def check_raw(raw: str) -> None:
     """Raises Drift unless the declarations in Rust say what the source says."""
-    text = re.sub(r'//.*', '', raw).replace('DecodeAnswer', 'Decoded')
+    text = re.sub(r'//.*', '', raw)
     structs = re.findall(r'#\[repr\(C\)\]\npub struct (\w+) \{\n(.*?)\n\}', text, re.S)
     same('the structs in Rust', source_structs(), {name: rust_fields(body) for name, body in structs})
     declared = re.findall(r'fn (rpeltp_\w+)\((.*?)\)\s*->\s*(\w+);', text, re.S)

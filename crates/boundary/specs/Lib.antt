@@ -1,4 +1,4 @@
--- All that the specs of this crate have: what encode promises to a caller in C, and that nothing is lost on the way there.
+-- All that the specs of this crate have: what encode and decode promise to a caller in C, and that nothing is lost on the way there.
 pub mod Promise
 pub mod Crossing
 pub mod Flags

@@ -5,12 +5,12 @@ ghost use Rattle.std.specs.Prelude.{◌≡◌};
 ghost use Rattle.standard.specs.Alaw.{alaw_samples};
 ghost use Rattle.standard.specs.House.{home_coder, home_decoder};
 ghost use Rattle.encoder.specs.Promise.{coder};
-ghost use Rattle.decoder.specs.Promise.{memory, Decodes, DecodesAlaw};
+ghost use Rattle.decoder.specs.Promise.{memory};
 ghost use Rattle.packing.specs.Promise.{Packs, Unpacks};
-ghost use Rattle.boundary.specs.Promise.{Encodes};
+ghost use Rattle.boundary.specs.Promise.{Encodes, Decodes, DecodesAlaw};
 
-use boundary::EncodeAnswer;
-use decoder::{Decoded, Decoder};
+use boundary::{DecodeAnswer, EncodeAnswer};
+use decoder::Decoder;
 use encoder::Encoder;
 
 // The encoder at home.
@@ -43,7 +43,11 @@ pub extern "C" fn rpeltp_encode(
 
 // 76 codewords to 160 samples.
 #[unsafe(no_mangle)]
-pub extern "C" fn rpeltp_decode(state: Decoder, codewords: &[i16], samples: &mut [i16]) -> Decoded
+pub extern "C" fn rpeltp_decode(
+    state: Decoder,
+    codewords: &[i16],
+    samples: &mut [i16],
+) -> DecodeAnswer
     ensures { Decodes state codewords.now samples.old result samples.new }
 {
     boundary::rpeltp_decode(state, codewords, samples)
@@ -68,7 +72,7 @@ pub extern "C" fn rpeltp_decode_alaw(
     state: Decoder,
     codewords: &[i16],
     octets: &mut [u8],
-) -> Decoded
+) -> DecodeAnswer
     ensures { DecodesAlaw state codewords.now octets.old result octets.new }
 {
     boundary::rpeltp_decode_alaw(state, codewords, octets)

@@ -7,8 +7,9 @@ ghost use Rattle.standard.specs.LongTerm.{is_lag};
 ghost use Rattle.standard.specs.Frame.{received};
 ghost use Rattle.standard.specs.Decoder as standard;
 ghost use Rattle.standard.specs.House.{home_decoder, sound_decoder};
-ghost use Rattle.decoder.specs.Promise.{memory, Decodes, DecodesAlaw, refused};
+ghost use Rattle.decoder.specs.Promise.{memory, Decodes, DecodesAlaw};
 
+use refusals::{Refusal, Refused};
 use short_synthesis::Cells;
 
 // 4.3: what is kept for the next frame. drp holds the residual's last 120 samples, the oldest first; nrp is the
@@ -23,15 +24,6 @@ pub struct Decoder {
     pub msr: i16,
 }
 
-// The answer: the state for the next call, and the refusal number, which is 0 where nothing is refused. A caller in C
-// has the same struct: 278 bytes, no padding.
-#[repr(C)]
-#[derive(Clone, Copy)]
-pub struct Decoded {
-    pub state: Decoder,
-    pub number: u16,
-}
-
 // 4.3, the whole: from 76 codewords to 160 samples, with the new state.
 fn frame(m: Decoder, codewords: &[i16], samples: &mut [i16]) -> Decoder
     requires { (length codewords.now ≡ 76) × ((length samples.old ≡ 160) × (is_lag m.nrp ≡ true)) }
@@ -39,48 +31,35 @@ fn frame(m: Decoder, codewords: &[i16], samples: &mut [i16]) -> Decoder
     ensures samples { samples.new
         ≡ (standard.decoded (memory m) (received codewords.now)).1 }
 {
-    let before = m.drp;
-    let old = m.larpp;
-    let v = m.v;
-    let mut drp = long_history::remembered(before);
-    let nrp = frame_received::decoded(m.nrp, codewords, &mut drp[0..280]);
+    let Decoder {
+        drp,
+        nrp,
+        larpp: before,
+        v,
+        msr,
+    } = m;
+    let mut drp = long_history::remembered(drp);
+    let nrp = frame_received::decoded(nrp, codewords, &mut drp);
     let larpp = short_ratios::ratios(frame_codewords::larc_valid(&codewords[0..8]));
-    let cells = frame_speech::frame(
-        Cells { v: v, msr: m.msr },
-        old,
+    let Cells { v, msr } = frame_speech::frame(
+        Cells { v, msr },
+        before,
         larpp,
-        &drp[120..280],
+        &drp[120..],
         samples,
     );
-    let after = cells.v;
     Decoder {
-        drp: long_history::last(&drp[160..280]),
-        nrp: nrp,
-        larpp: larpp,
-        v: after,
-        msr: cells.msr,
-    }
-}
-
-// House rules, 'Soundness': the remembered lag is from 40 to 120.
-fn sound(m: Decoder) -> bool
-    ensures { result ≡ sound_decoder (memory m) }
-{
-    long_filter::is_lag(m.nrp)
-}
-
-// A refusal: the number, and the state as it was passed in.
-fn refuse(number: u16, m: Decoder) -> Decoded
-    ensures { result ≡ refused number m }
-{
-    Decoded {
-        number: number,
-        state: m,
+        drp: long_history::last(&drp[160..]),
+        nrp,
+        larpp,
+        v,
+        msr,
     }
 }
 
 impl Decoder {
     // House rules, 'Home': every carried value is 0, and the remembered lag is 40 (4.3.2).
+    #[tactic(auto, unfolding(crate::specs::Promise::memory, standard::specs::House::home_decoder))]
     pub fn home() -> Decoder
         ensures { memory result ≡ home_decoder }
     {
@@ -93,38 +72,43 @@ impl Decoder {
         }
     }
 
-    // The 160 samples of 76 codewords, of which only valid bits are used.
-    pub fn decode(self, codewords: &[i16], samples: &mut [i16]) -> Decoded
+    // House rules, 'Soundness': the remembered lag is from 40 to 120.
+    fn sound(self) -> bool
+        ensures { result ≡ sound_decoder (memory self) }
+    {
+        long_filter::is_lag(self.nrp)
+    }
+
+    // The 160 samples of 76 codewords, of which only valid bits are used, and the state for the next call.
+    pub fn decode(self, codewords: &[i16], samples: &mut [i16]) -> Result<Decoder, Refused<Decoder>>
         ensures { Decodes self codewords.now samples.old result samples.new }
     {
         if samples.len() != 160 {
-            return refuse(1, self);
+            return Err(Refusal::Samples.with(self));
         }
         if codewords.len() != 76 {
-            return refuse(2, self);
+            return Err(Refusal::Codewords.with(self));
         }
-        if !sound(self) {
-            return refuse(3, self);
+        if !self.sound() {
+            return Err(Refusal::State.with(self));
         }
-        let state = frame(self, codewords, samples);
-        Decoded {
-            number: 0,
-            state: state,
-        }
+        Ok(frame(self, codewords, samples))
     }
 
     // The same with 160 octets of A-law in the place of the samples. A refusal leaves the octets as they were.
-    pub fn decode_alaw(self, codewords: &[i16], octets: &mut [u8]) -> Decoded
+    pub fn decode_alaw(
+        self,
+        codewords: &[i16],
+        octets: &mut [u8],
+    ) -> Result<Decoder, Refused<Decoder>>
         ensures { DecodesAlaw self codewords.now octets.old result octets.new }
     {
         if octets.len() != 160 {
-            return refuse(1, self);
+            return Err(Refusal::Samples.with(self));
         }
         let mut samples = [0; 160];
-        let a = self.decode(codewords, &mut samples);
-        if a.number == 0 {
-            pcm_alaw::octets(&samples, octets);
-        }
-        a
+        let state = self.decode(codewords, &mut samples)?;
+        pcm_alaw::octets(&samples, octets);
+        Ok(state)
     }
 }

@@ -2,7 +2,7 @@
 // ('Refusals'); and encode_alaw, which takes octets. What both promise is in specs/Promise.antt.
 #![tactic(auto)]
 
-ghost use Rattle.std.specs.Prelude.{◌≡◌, true, cond, ◌++◌, ◌*◌, ◌≤◌, pos, length, take, replicate};
+ghost use Rattle.std.specs.Prelude.{◌≡◌, true, cond, ◌++◌, ◌*◌, ◌≤◌, length, take, map};
 ghost use Rattle.std.proofs.Math.Option.{some};
 ghost use Rattle.standard.specs.Frame.{sub_words, words};
 ghost use Rattle.standard.specs.Alaw.{alaw_samples};
@@ -10,14 +10,15 @@ ghost use Rattle.standard.specs.Coder as standard;
 ghost use Rattle.standard.specs.House as house;
 ghost use Rattle.lpc_reflection.specs.Promise.{ended};
 ghost use Rattle.frame_subframe.specs.Whole.{added};
-ghost use Rattle.encoder.specs.Promise.{coder, ending, mark, marks, Encodes, refused};
+ghost use Rattle.encoder.specs.Promise.{coder, mark, Encodes};
 ghost use Rattle.math_lists.specs.Parts.{put};
 ghost use Rattle.encoder.specs.Subframes.{own, before, four_added, four_words, four_marks};
 ghost use Rattle.encoder.specs.Whole.{coded_marks};
 
 use frame_analysis::Filters;
-use lpc_reflection::Ending as Ended;
+pub use lpc_reflection::Ending;
 use pre_processing::Kept;
+use refusals::{Refusal, Refused};
 
 // 4.2: what is kept for the next frame. dp holds the residual's last 120 samples, the oldest first. A caller in C has
 // the same struct: the widest value stands first, so that it has no padding.
@@ -32,78 +33,28 @@ pub struct Encoder {
     pub dp: [i16; 120],
 }
 
-// 4.2.5: how the recursion ended (house rules, 'Endings'); absent where encode refuses.
-#[derive(Clone, Copy)]
-pub enum Ending {
-    Absent,
-    Silent,
-    Stopped(u8),
-    Complete,
-}
-
-// Whether a lag was found, or is the lag 40 that the search started with (house rules, 'Marks'); absent where encode
-// refuses.
-#[derive(Clone, Copy)]
+// Whether a lag was found, or is the lag 40 that the search started with (house rules, 'Marks').
+#[derive(Clone, Copy, PartialEq, Eq, Debug)]
 pub enum Mark {
-    Absent,
     Rule,
     Found,
 }
 
-// The marks of the four sub-frames.
-#[derive(Clone, Copy)]
-pub struct Marks {
-    pub first: Mark,
-    pub second: Mark,
-    pub third: Mark,
-    pub fourth: Mark,
-}
-
-// The answer: the refusal number, which is 0 where nothing is refused; the state for the next call; the ending and the
-// marks.
+// What a frame gives beside its codewords: the state for the next call, how the recursion ended (house rules,
+// 'Endings'), and the marks of the four sub-frames.
 #[derive(Clone, Copy)]
 pub struct Encoded {
-    pub number: u8,
     pub state: Encoder,
     pub ending: Ending,
-    pub marks: Marks,
-}
-
-// What a frame gives beside its codewords.
-#[derive(Clone, Copy)]
-struct Coded {
-    state: Encoder,
-    ending: Ending,
-    marks: Marks,
-}
-
-// House rules, 'Soundness': what the offset filter keeps is in its ranges.
-fn sound(e: Encoder) -> bool
-    ensures { result ≡ house.sound_coder (coder e) }
-{
-    let z1 = e.z1;
-    pre_processing::sound(Kept {
-        z1: z1,
-        l_z2: e.l_z2,
-    })
+    pub marks: [Mark; 4],
 }
 
 // House rules, 'Marks' (request W-203): a lag is found when some lag had a positive sum.
+#[tactic(auto, unfolding(crate::specs::Promise::mark))]
 fn marked(positive: bool) -> Mark
     ensures { mark result ≡ some (cond positive house.found house.rule) }
 {
     if positive { Mark::Found } else { Mark::Rule }
-}
-
-// The recursion's ending, as encode answers it.
-fn answered(e: Ended) -> Ending
-    ensures { ending result ≡ some (ended e) }
-{
-    match e {
-        Ended::Silent => Ending::Silent,
-        Ended::Stopped(n) => Ending::Stopped(n),
-        Ended::Complete => Ending::Complete,
-    }
 }
 
 // Sub-frame n, from 0 to 3, with its mark. It is passed all of d and of the history. It reads its own 40 samples of d
@@ -123,10 +74,11 @@ fn sub_frame(n: usize, d: &[i16], dp: &mut [i16], c: &mut [i16]) -> Mark
     marked(search.positive)
 }
 
-// The four sub-frames. Each goes on from what dp holds by then, and is passed the 17 codewords that it fills.
-fn sub_frames(d: &[i16], dp: &mut [i16], codewords: &mut [i16]) -> Marks
+// The four sub-frames. Each goes on from what dp holds by then, and is passed the 17 codewords that it fills: four
+// calls and no loop, so that each range stands here.
+fn sub_frames(d: &[i16], dp: &mut [i16], codewords: &mut [i16]) -> [Mark; 4]
     requires { (length d.now ≡ 160) × ((length dp.old ≡ 280) × (length codewords.old ≡ 76)) }
-    ensures marks { marks result ≡ four_marks (take 120 dp.old) d.now }
+    ensures marks { map mark result ≡ four_marks (take 120 dp.old) d.now }
     ensures codewords { codewords.new
         ≡ take 8 codewords.old ++ four_words (take 120 dp.old) d.now }
     ensures history { dp.new ≡ four_added (take 120 dp.old) d.now }
@@ -135,97 +87,66 @@ fn sub_frames(d: &[i16], dp: &mut [i16], codewords: &mut [i16]) -> Marks
     let second = sub_frame(1, d, dp, &mut codewords[25..42]);
     let third = sub_frame(2, d, dp, &mut codewords[42..59]);
     let fourth = sub_frame(3, d, dp, &mut codewords[59..76]);
-    Marks {
-        first: first,
-        second: second,
-        third: third,
-        fourth: fourth,
-    }
+    [first, second, third, fourth]
 }
 
-// LARc[1..8] are the first eight codewords.
-fn ratios(larc: [i16; 8], c: &mut [i16])
-    requires { length c.old ≡ 8 }
-    ensures { c.new ≡ larc }
-{
-    for i in 0..8usize {
-        c[i] = larc[i];
-    }
-}
-
-// A buffer for d, or for the samples of a frame.
-fn room() -> [i16; 160]
-    ensures { result ≡ replicate 160 (pos 0) }
-{
-    [0; 160]
-}
-
-// 4.2, the whole: from 160 samples to 76 codewords, with the new state, the ending and the marks.
-fn frame(e: Encoder, samples: &[i16], codewords: &mut [i16]) -> Coded
+// 4.2, the whole: from 160 samples to 76 codewords. LARc[1..8] are the first eight of them.
+fn frame(e: Encoder, samples: &[i16], codewords: &mut [i16]) -> Encoded
     requires { (length samples.now ≡ 160)
         × ((length codewords.old ≡ 76) × (house.sound_coder (coder e) ≡ true)) }
     ensures state { coder result.state ≡ (standard.coded (coder e) samples.now).0 }
-    ensures ending { ending result.ending ≡ some (standard.coded (coder e) samples.now).1.ending }
-    ensures marks { marks result.marks ≡ coded_marks (coder e) samples.now }
+    ensures ending { ended result.ending ≡ (standard.coded (coder e) samples.now).1.ending }
+    ensures marks { map mark result.marks ≡ coded_marks (coder e) samples.now }
     ensures codewords { codewords.new
         ≡ words (standard.frame (standard.coded (coder e) samples.now).1) }
 {
-    let larpp = e.larpp;
-    let u = e.u;
-    let before = e.dp;
-    let mut d = room();
+    let Encoder {
+        l_z2,
+        z1,
+        mp,
+        larpp,
+        u,
+        dp,
+    } = e;
+    let mut d = [0; 160];
     let a = frame_analysis::frame(
         Filters {
-            z1: e.z1,
-            l_z2: e.l_z2,
-            mp: e.mp,
-            larpp: larpp,
-            u: u,
+            z1,
+            l_z2,
+            mp,
+            larpp,
+            u,
         },
         samples,
-        &mut d[0..160],
+        &mut d,
     );
-    let next = a.next;
-    let larc = a.larc;
-    let how = a.ending;
-    ratios(larc, &mut codewords[0..8]);
-    let mut dp = long_history::remembered(before);
-    let marks = sub_frames(&d[0..160], &mut dp[0..280], codewords);
-    let new = next.larpp;
-    let after = next.u;
-    Coded {
-        state: Encoder {
-            z1: next.z1,
-            l_z2: next.l_z2,
-            mp: next.mp,
-            larpp: new,
-            u: after,
-            dp: long_history::last(&dp[160..280]),
-        },
-        ending: answered(how),
-        marks: marks,
-    }
-}
-
-// A refusal: the number, the state as it was passed in, no ending and no marks.
-fn refuse(number: u8, e: Encoder) -> Encoded
-    ensures { result ≡ refused number e }
-{
+    codewords[..8].copy_from_slice(&a.larc);
+    let mut dp = long_history::remembered(dp);
+    let marks = sub_frames(&d, &mut dp, codewords);
+    let Filters {
+        z1,
+        l_z2,
+        mp,
+        larpp,
+        u,
+    } = a.next;
     Encoded {
-        number: number,
-        state: e,
-        ending: Ending::Absent,
-        marks: Marks {
-            first: Mark::Absent,
-            second: Mark::Absent,
-            third: Mark::Absent,
-            fourth: Mark::Absent,
+        state: Encoder {
+            l_z2,
+            z1,
+            mp,
+            larpp,
+            u,
+            dp: long_history::last(&dp[160..]),
         },
+        ending: a.ending,
+        marks,
     }
 }
 
 impl Encoder {
     // House rules, 'Home': every carried value is 0.
+    #[tactic(auto, unfolding(crate::specs::Promise::coder, standard::specs::House::home_coder))]
     pub fn home() -> Encoder
         ensures { coder result ≡ house.home_coder }
     {
@@ -239,40 +160,45 @@ impl Encoder {
         }
     }
 
+    // House rules, 'Soundness': what the offset filter keeps is in its ranges.
+    fn sound(self) -> bool
+        ensures { result ≡ house.sound_coder (coder self) }
+    {
+        pre_processing::sound(Kept {
+            z1: self.z1,
+            l_z2: self.l_z2,
+        })
+    }
+
     // The 76 codewords of 160 samples, of which the low 3 bits are ignored.
-    pub fn encode(self, samples: &[i16], codewords: &mut [i16]) -> Encoded
+    pub fn encode(self, samples: &[i16], codewords: &mut [i16]) -> Result<Encoded, Refused<Encoder>>
         ensures { Encodes self samples.now codewords.old result codewords.new }
     {
         if samples.len() != 160 {
-            return refuse(1, self);
+            return Err(Refusal::Samples.with(self));
         }
         if codewords.len() != 76 {
-            return refuse(2, self);
+            return Err(Refusal::Codewords.with(self));
         }
-        if !sound(self) {
-            return refuse(3, self);
+        if !self.sound() {
+            return Err(Refusal::State.with(self));
         }
-        let coded = frame(self, samples, codewords);
-        let state = coded.state;
-        let ending = coded.ending;
-        let marks = coded.marks;
-        Encoded {
-            number: 0,
-            state: state,
-            ending: ending,
-            marks: marks,
-        }
+        Ok(frame(self, samples, codewords))
     }
 
     // The same for 160 octets of A-law: encode of the samples that they stand for.
-    pub fn encode_alaw(self, octets: &[u8], codewords: &mut [i16]) -> Encoded
+    pub fn encode_alaw(
+        self,
+        octets: &[u8],
+        codewords: &mut [i16],
+    ) -> Result<Encoded, Refused<Encoder>>
         ensures { Encodes self (alaw_samples octets.now)
             codewords.old result codewords.new }
     {
         if octets.len() != 160 {
-            return refuse(1, self);
+            return Err(Refusal::Samples.with(self));
         }
-        let mut samples = room();
+        let mut samples = [0; 160];
         pcm_alaw::samples(octets, &mut samples);
         self.encode(&samples, codewords)
     }

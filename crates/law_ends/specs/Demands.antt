@@ -3,7 +3,7 @@
 use Rattle.std.specs.Prelude.{ℕ, suc, ◌<◌, ◌≡◌, List, map, eqb, ℤ, length}
 use Rattle.std.proofs.Common.{sym, ◌∙◌}
 use Rattle.std.proofs.Math.Path.{ap}
-use Rattle.std.proofs.Math.Option.{none, some}
+use Rattle.std.proofs.Math.Option.{Option, none, some}
 use Rattle.std.proofs.Math.ListN.{get_or}
 use Rattle.math_lists.specs.Every.{every}
 use Rattle.math_lists.specs.Tab.{map_at}
@@ -23,13 +23,10 @@ use Rattle.law_fields.specs.Marks.{Told, told}
 use Rattle.law_limits.specs.Signals.{part, history, subframe_is}
 use Rattle.pcm_alaw.specs.Facts.{samples_length}
 use Rattle.encoder.specs.declared.Encoder.{Encoder}
-use Rattle.encoder.specs.declared.Marks.{Marks}
-use Rattle.encoder.specs.declared.Encoded.{Encoded}
-use Rattle.encoder.specs.Promise.{coder, ending, marks, Encodes}
+use Rattle.encoder.specs.Promise.{coder, Encodes}
 use Rattle.encoder.specs.Promise as encoder
 use Rattle.encoder.specs.Calls as encoder-calls
 use Rattle.decoder.specs.declared.Decoder.{Decoder}
-use Rattle.decoder.specs.declared.Decoded.{Decoded}
 use Rattle.decoder.specs.Promise.{memory, Decodes, DecodesAlaw}
 use Rattle.decoder.specs.Promise as decoder
 use Rattle.decoder.specs.Calls as decoder-calls
@@ -39,9 +36,9 @@ use Rattle.packing.specs.Promise.{Packs, packing_refused, Unpacks, unpacking_ref
 
 -- house rules, 'Marks': sub-frame i of a frame, counted from 0, has a mark. The mark tells what the search found for its 40 samples of d in
 -- the history before it, and what that means for its codewords as they are received
-abbrev pub Marked : Coder → List ℤ → Marks → List ℤ → ℕ → Type 0
+abbrev pub Marked : Coder → List ℤ → List (Option house.Mark) → List ℤ → ℕ → Type 0
 Marked c samples ms left i =
-    (m : house.Mark) × (get_or (marks ms) i none ≡ some m)
+    (m : house.Mark) × (get_or ms i none ≡ some m)
     × ((z : Subframe) → Told m (history c samples i) (part c samples i) (get_or (received left).subframes i z))
 
 -- a value g of each sub-frame of a frame, at sub-frame i
@@ -52,25 +49,25 @@ read_at c samples i l g z =
     let n : i < length (coded c samples).1.subframes = rw (coded_subframes c samples) l in
     map_at g (coded c samples).1.subframes i s z n ∙ ap g (subframe_is c samples i s l)
 
-module _ (e : Encoder) (samples lent : List ℤ) (a : Encoded) (left : List ℤ) (p : Encodes e samples lent a left) where
+module _ (e : Encoder) (samples lent : List ℤ) (a : encoder.Answer) (left : List ℤ) (p : Encodes e samples lent a left) where
   -- demand 1: 1, 2 and 3 exactly when the house rules say ('Refusals'), the lowest of several, and 0 exactly when nothing is wrong
-  pub encode_refuses : Exactly a.number 160 76 1 2 3 samples lent (sound_coder (coder e))
+  pub encode_refuses : Exactly (encoder.number a) 160 76 1 2 3 samples lent (sound_coder (coder e))
   encode_refuses = rw (encoder-calls.number_is e samples lent a left p) (encode_exactly (coder e) samples lent)
 
   -- a refusal returns the state as it was, no ending and no marks, and writes nothing
-  pub encode_hands_back : (n : ℕ) → a.number ≡ suc n → (a ≡ encoder.refused (suc n) e) × (left ≡ lent)
+  pub encode_hands_back : (n : ℕ) → encoder.number a ≡ suc n → (a ≡ encoder.refused (suc n) e) × (left ≡ lent)
   encode_hands_back n h = encoder.one_refusal e samples lent n (sym (encoder-calls.number_is e samples lent a left p) ∙ h) a left p
 
   -- demand 2: otherwise the state, the 76 codewords, the ending and the marks are those of the definitions (4.2)
-  pub encode_equals : a.number ≡ 0 → let t = coded (coder e) samples in
-      (coder a.state ≡ t.0) × (left ≡ words (frame t.1))
-      × (ending a.ending ≡ some t.1.ending) × (marks a.marks ≡ map (λ s. some (house.mark s)) t.1.subframes)
+  pub encode_equals : encoder.number a ≡ 0 → let t = coded (coder e) samples in
+      (coder (encoder.state a) ≡ t.0) × (left ≡ words (frame t.1))
+      × (encoder.ending a ≡ some t.1.ending) × (encoder.marks a ≡ map (λ s. some (house.mark s)) t.1.subframes)
   encode_equals h =
       let d = encode_done (coder e) samples lent (sym (encoder-calls.number_is e samples lent a left p) ∙ h) in
       (rw d at p.state, rw d at p.codewords, rw d at p.ending, rw d at p.marks)
 
   -- each mark tells what was measured
-  pub encode_marks : a.number ≡ 0 → (i : ℕ) → i < 4 → Marked (coder e) samples a.marks left i
+  pub encode_marks : encoder.number a ≡ 0 → (i : ℕ) → i < 4 → Marked (coder e) samples (encoder.marks a) left i
   unfolding frame
   encode_marks h i l =
       let dp = history (coder e) samples i in
@@ -84,66 +81,68 @@ module _ (e : Encoder) (samples lent : List ℤ) (a : Encoded) (left : List ℤ)
       (house.mark (sub_coded dp d), mark, λ z. rw (sent z) (told dp d))
 
 -- encode_alaw: the same over the samples that the octets stand for; number 1 counts octets
-module _ (e : Encoder) (octets : List ℕ) (lent : List ℤ) (a : Encoded) (left : List ℤ)
+module _ (e : Encoder) (octets : List ℕ) (lent : List ℤ) (a : encoder.Answer) (left : List ℤ)
     (p : Encodes e (alaw_samples octets) lent a left) where
-  pub encode_alaw_refuses : Exactly a.number 160 76 1 2 3 octets lent (sound_coder (coder e))
+  pub encode_alaw_refuses : Exactly (encoder.number a) 160 76 1 2 3 octets lent (sound_coder (coder e))
   encode_alaw_refuses =
-      exactly_as a.number 160 76 1 2 3 (alaw_samples octets) octets lent _ (sym (samples_length octets))
+      exactly_as (encoder.number a) 160 76 1 2 3 (alaw_samples octets) octets lent _ (sym (samples_length octets))
       (encode_refuses e (alaw_samples octets) lent a left p)
 
-  pub encode_alaw_hands_back : (n : ℕ) → a.number ≡ suc n → (a ≡ encoder.refused (suc n) e) × (left ≡ lent)
+  pub encode_alaw_hands_back : (n : ℕ) → encoder.number a ≡ suc n → (a ≡ encoder.refused (suc n) e) × (left ≡ lent)
   encode_alaw_hands_back = encode_hands_back e (alaw_samples octets) lent a left p
 
-  pub encode_alaw_equals : a.number ≡ 0 → let t = coded (coder e) (alaw_samples octets) in
-      (coder a.state ≡ t.0) × (left ≡ words (frame t.1))
-      × (ending a.ending ≡ some t.1.ending) × (marks a.marks ≡ map (λ s. some (house.mark s)) t.1.subframes)
+  pub encode_alaw_equals : encoder.number a ≡ 0 → let t = coded (coder e) (alaw_samples octets) in
+      (coder (encoder.state a) ≡ t.0) × (left ≡ words (frame t.1))
+      × (encoder.ending a ≡ some t.1.ending) × (encoder.marks a ≡ map (λ s. some (house.mark s)) t.1.subframes)
   encode_alaw_equals = encode_equals e (alaw_samples octets) lent a left p
 
-  pub encode_alaw_marks : a.number ≡ 0 → (i : ℕ) → i < 4 → Marked (coder e) (alaw_samples octets) a.marks left i
+  pub encode_alaw_marks : encoder.number a ≡ 0 → (i : ℕ) → i < 4 → Marked (coder e) (alaw_samples octets) (encoder.marks a) left i
   encode_alaw_marks = encode_marks e (alaw_samples octets) lent a left p
 
 -- ---- decode
 
-module _ (m : Decoder) (codewords lent : List ℤ) (a : Decoded) (left : List ℤ) (p : Decodes m codewords lent a left) where
+module _ (m : Decoder) (codewords lent : List ℤ) (a : decoder.Answer) (left : List ℤ) (p : Decodes m codewords lent a left) where
   -- demand 1
-  pub decode_refuses : Exactly a.number 160 76 1 2 3 lent codewords (sound_decoder (memory m))
+  pub decode_refuses : Exactly (decoder.number a) 160 76 1 2 3 lent codewords (sound_decoder (memory m))
   decode_refuses = rw (decoder-calls.number_is m codewords lent a left p) (decode_exactly (memory m) codewords lent)
 
-  pub decode_hands_back : (n : ℕ) → a.number ≡ suc n → (a ≡ decoder.refused (suc n) m) × (left ≡ lent)
+  pub decode_hands_back : (n : ℕ) → decoder.number a ≡ suc n → (a ≡ decoder.refused (suc n) m) × (left ≡ lent)
   decode_hands_back n h = decoder.one_refusal m codewords lent n (sym (decoder-calls.number_is m codewords lent a left p) ∙ h) a left p
 
   -- demand 2: the state and the 160 samples are those of 4.3
-  pub decode_equals : a.number ≡ 0 → let t = standard.decoded (memory m) (received codewords) in (memory a.state ≡ t.0) × (left ≡ t.1)
+  pub decode_equals : decoder.number a ≡ 0 → let t = standard.decoded (memory m) (received codewords) in
+      (memory (decoder.state a) ≡ t.0) × (left ≡ t.1)
   decode_equals h =
       let d = decode_done (memory m) codewords lent (sym (decoder-calls.number_is m codewords lent a left p) ∙ h) in
       (rw d at p.state, rw d at p.samples)
 
-module _ (m : Decoder) (codewords : List ℤ) (lent : List ℕ) (a : Decoded) (left : List ℕ) (p : DecodesAlaw m codewords lent a left) where
-  is_decode_alaw's : a.number ≡ decode_alaw_refusal (memory m) codewords lent
+module _ (m : Decoder) (codewords : List ℤ) (lent : List ℕ) (a : decoder.Answer) (left : List ℕ)
+    (p : DecodesAlaw m codewords lent a left) where
+  is_decode_alaw's : decoder.number a ≡ decode_alaw_refusal (memory m) codewords lent
   is_decode_alaw's = p.number ∙ decode_alaw_number (memory m) codewords lent
 
   -- demand 1, where number 1 counts octets
-  pub decode_alaw_refuses : Exactly a.number 160 76 1 2 3 lent codewords (sound_decoder (memory m))
+  pub decode_alaw_refuses : Exactly (decoder.number a) 160 76 1 2 3 lent codewords (sound_decoder (memory m))
   decode_alaw_refuses = rw is_decode_alaw's (decode_alaw_exactly (memory m) codewords lent)
 
-  pub decode_alaw_hands_back : (n : ℕ) → a.number ≡ suc n → (a ≡ decoder.refused (suc n) m) × (left ≡ lent)
+  pub decode_alaw_hands_back : (n : ℕ) → decoder.number a ≡ suc n → (a ≡ decoder.refused (suc n) m) × (left ≡ lent)
   decode_alaw_hands_back n h = decoder.one_octets_refusal m codewords lent n (sym is_decode_alaw's ∙ h) a left p
 
   -- demand 2: the state is 4.3's, the octets are those of 4.3's samples
-  pub decode_alaw_equals : a.number ≡ 0 → let t = standard.decoded (memory m) (received codewords) in
-      (memory a.state ≡ t.0) × (left ≡ alaw_octets t.1)
+  pub decode_alaw_equals : decoder.number a ≡ 0 → let t = standard.decoded (memory m) (received codewords) in
+      (memory (decoder.state a) ≡ t.0) × (left ≡ alaw_octets t.1)
   decode_alaw_equals h =
       let d = decode_alaw_done (memory m) codewords lent (sym is_decode_alaw's ∙ h) in
       (rw d at p.state, rw d at p.octets)
 
   -- the two decodes agree: from the same state and frame, with as many octets as samples, they give the same answer, and the octets are
   -- those of the samples
-  pub octets_of_samples : (samples : List ℤ) (b : Decoded) (heard : List ℤ)
+  pub octets_of_samples : (samples : List ℤ) (b : decoder.Answer) (heard : List ℤ)
       → length lent ≡ length samples → Decodes m codewords samples b heard
-      → (a ≡ b) × (a.number ≡ 0 → left ≡ alaw_octets heard)
+      → (a ≡ b) × (decoder.number a ≡ 0 → left ≡ alaw_octets heard)
   octets_of_samples samples b heard l q =
       let (same, all) = decoder.one_octets m codewords lent a b left _ p (decoder.octets_keep m codewords samples b heard q lent l) in
-      (same, λ n. all ∙ answer_done b.number (alaw_octets heard) (λ _. lent) (rw same at n))
+      (same, λ n. all ∙ answer_done (decoder.number b) (alaw_octets heard) (λ _. lent) (rw same at n))
 
 -- ---- pack and unpack
 

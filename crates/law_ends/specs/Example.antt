@@ -14,7 +14,7 @@ use Rattle.encoder.specs.Promise.{coder, encoder_of}
 use Rattle.decoder.specs.Promise.{memory, decoder_of}
 use Rattle.law_ends.specs.Together.{Ends, after, Handed, Shown, Along, at_home, together}
 use Rattle.law_ends.specs.Soundly.{number}
-use Rattle.law_ends.specs.Outcomes.{Ask, encode, encode_alaw, decode, decode_alaw, call, calls, of_words, calls_made}
+use Rattle.law_ends.specs.Outcomes.{answered, Ask, encode, encode_alaw, decode, decode_alaw, call, calls, of_words, calls_made}
 
 -- a pulse every 40 samples
 unfoldable pub pulses : List ℤ
@@ -80,17 +80,17 @@ asks =
 
 -- two of them are refused, and no other
 pub numbers : map number (calls home asks) ≡ 0 ∷ 1 ∷ 0 ∷ 2 ∷ 0 ∷ 0 ∷ []
-unfolding opened calls call after number coder memory pulses strayed idle_frame
+unfolding opened answered calls call after number coder memory pulses strayed idle_frame
 numbers = refl
 
 -- these calls meet the condition
 pub meets : Along Handed home (calls home asks)
-unfolding opened Along calls call after Handed coder memory pulses strayed idle_frame
+unfolding opened answered Along calls call after Handed coder memory pulses strayed idle_frame
 meets = (λ _. refl, (λ n. absurd (suc-ne-zero 0 n), (λ _. refl, (λ _. refl, (λ _. refl, (λ _. refl, tt))))))
 
 -- so demand 3 speaks of them
 pub shown : Along Shown home (calls home asks)
-unfolding coder memory opened of_words pulses
+unfolding coder memory opened answered of_words pulses
 shown = together (encoder_of home_coder) (decoder_of home_decoder) refl refl (calls home asks) (calls_made home asks refl) meets
 
 -- what both hold after the first frame is not silence
@@ -106,12 +106,12 @@ lost = encode pulses (zeros 76) ∷ encode (zeros 160) (zeros 76) ∷ decode sec
 
 -- so the second encode breaks the condition
 pub breaks : ¬ Along Handed home (calls home lost)
-unfolding opened Along calls call after Handed coder memory pulses second_frame
+unfolding opened answered Along calls call after Handed coder memory pulses second_frame
 breaks h = some-ne-none _ (h.1.0 refl)
 
 -- and the ends differ: the second sample of the history is −31 at one end and 0 at the other
 pub apart : ¬ Along Shown home (calls home lost)
-unfolding opened Along calls call after Shown coder memory pulses second_frame
+unfolding opened answered Along calls call after Shown coder memory pulses second_frame
 apart s = suc-ne-zero 30 (ap (λ l. nat_abs (l at 1)) (s.1.1.0 refl).0)
 
 -- a valid bit of the first codeword is turned over on the way
@@ -125,14 +125,14 @@ first_word (some c) = nat_abs (c at 0)
 
 -- so the decode breaks the condition
 pub breaks_changed : ¬ Along Handed home (calls home changed)
-unfolding opened Along calls call after Handed coder memory pulses first_frame first_word
+unfolding opened answered Along calls call after Handed coder memory pulses first_frame first_word
 breaks_changed h =
     let same : ◌≡◌ {A = ℕ} 42 43 = ap first_word (h.1.0 refl) in
     absurd (omega arith)
 
 -- and the ends differ in their first ratio
 pub apart_changed : ¬ Along Shown home (calls home changed)
-unfolding opened Along calls call after Shown coder memory pulses first_frame
+unfolding opened answered Along calls call after Shown coder memory pulses first_frame
 apart_changed s =
     let same : ◌≡◌ {A = ℕ} 8192 9012 = ap (λ l. nat_abs (l at 0)) (s.1.0 refl).1 in
     absurd (omega arith)

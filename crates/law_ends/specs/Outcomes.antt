@@ -1,75 +1,88 @@
 -- Each promise can be kept, whatever is passed in: the answer of the definitions, written in the types of the code, keeps it.
-use Rattle.std.specs.Prelude.{ℕ, ◌≡◌, Bool, true, List, [], ◌∷◌, ℤ, length}
-use Rattle.std.proofs.Common.{arith}
+use Rattle.std.specs.Prelude.{ℕ, zero, suc, ◌≡◌, Bool, true, List, [], ◌∷◌, map, ℤ, Ok}
+use Rattle.std.proofs.Common.{ap}
 use Rattle.std.proofs.Math.Path.{refl}
-use Rattle.std.proofs.Math.Option.{Option, none, some}
+use Rattle.std.proofs.Math.Option.{some}
 use Rattle.math_lists.specs.Every.{every, every_cons}
 use Rattle.standard.specs.Lpc as lpc
 use Rattle.standard.specs.Alaw.{alaw_samples}
+use Rattle.standard.specs.Frame.{received}
+use Rattle.standard.specs.Coder.{Subcoded, coded}
+use Rattle.standard.specs.Decoder.{decoded as heard}
 use Rattle.standard.specs.House as house
+use Rattle.standard.specs.House.{encode_refusal, decode_refusal, decode_alaw_refusal}
 use Rattle.standard.specs.Answers as answers
+use Rattle.standard.specs.Answers.{answer}
 use Rattle.law_arithmetic.specs.Within.{word}
-use Rattle.law_lengths.specs.Calls.{encode_marks_length}
+use Rattle.law_refusals.specs.Calls.{encode_done, encode_refused, decode_done, decode_refused, decode_alaw_done, decode_alaw_refused}
+use Rattle.refusals.specs.Numbers as refusals
+use Rattle.refusals.specs.Numbers.{number_of, refusal_of}
+use Rattle.lpc_reflection.specs.Promise.{ended}
 use Rattle.encoder.specs.declared.Encoder.{Encoder}
 use Rattle.encoder.specs.declared.Encoded.{Encoded}
-use Rattle.encoder.specs.Promise.{coder, ending, mark, marks, Encodes, encoder_of, ending_of, mark_of, marks_of}
+use Rattle.encoder.specs.Promise as encoder
+use Rattle.encoder.specs.Promise.{coder, mark, Encodes, encoder_of, ending_of, mark_of, marks_of}
 use Rattle.decoder.specs.declared.Decoder.{Decoder}
-use Rattle.decoder.specs.declared.Decoded.{Decoded}
+use Rattle.decoder.specs.Promise as decoder
 use Rattle.decoder.specs.Promise.{memory, Decodes, DecodesAlaw, decoder_of}
 use Rattle.law_ends.specs.Together.{Call, encodes, encodes_alaw, decodes, decodes_alaw, Ends, after, Made, Along}
+
+-- all that an answer is read by, to be unfolded together
+unfoldable pub answered : Unit {0}
+unfolding number_of refusals.number refusal_of encoder.state encoder.refused decoder.state decoder.refused
+answered = tt
 
 -- ---- encode
 
 -- an ending of the definitions, written in the type of the code, stands for the same ending
-ending_stands : (o : Option lpc.Ending) → ending (ending_of o) ≡ o
-unfolding ending
-ending_stands none = refl
-ending_stands (some lpc.silent) = refl
-ending_stands (some (lpc.stopped n)) = refl
-ending_stands (some lpc.complete) = refl
+ending_stands : (e : lpc.Ending) → ended (ending_of e) ≡ e
+unfolding ended
+ending_stands lpc.silent = refl
+ending_stands (lpc.stopped n) = refl
+ending_stands lpc.complete = refl
 
 -- so does a mark
-mark_stands : (o : Option house.Mark) → mark (mark_of o) ≡ o
+mark_stands : (m : house.Mark) → mark (mark_of (some m)) ≡ some m
 unfolding mark
-mark_stands none = refl
-mark_stands (some house.rule) = refl
-mark_stands (some house.found) = refl
+mark_stands house.rule = refl
+mark_stands house.found = refl
 
--- and so do four
-marks_stand : (ms : List (Option house.Mark)) → length ms ≡ 4 → marks (marks_of ms) ≡ ms
-unfolding marks
-marks_stand (a ∷ b ∷ c ∷ d ∷ []) l = rw (mark_stands a, mark_stands b, mark_stands c, mark_stands d)
-marks_stand [] l = absurd (omega arith)
-marks_stand (a ∷ []) l = absurd (omega arith)
-marks_stand (a ∷ b ∷ []) l = absurd (omega arith)
-marks_stand (a ∷ b ∷ c ∷ []) l = absurd (omega arith)
-marks_stand (a ∷ b ∷ c ∷ d ∷ e ∷ ms) l = absurd (omega arith)
+-- and so do the marks of sub-frames
+marks_stand : (ss : List Subcoded) → let ms = map (λ s. some (house.mark s)) ss in map mark (marks_of ms) ≡ ms
+marks_stand [] = refl
+marks_stand (s ∷ ss) = rw (mark_stands (house.mark s), marks_stand ss)
 
 module _ (e : Encoder) (samples codewords : List ℤ) where
   abbrev encoded : answers.Encoded
   encoded = answers.encode (coder e) samples codewords
 
-  -- what encode answers
-  abbrev pub encode_answers : Encoded
-  encode_answers =
+  -- a frame that is coded, written in the types of the code
+  abbrev written : Encoded
+  written =
+      let t = coded (coder e) samples in
       record {
-        number = encoded.number;
-        state = encoder_of encoded.state;
-        ending = ending_of encoded.ending;
-        marks = marks_of encoded.marks;
+        state = encoder_of t.0;
+        ending = ending_of t.1.ending;
+        marks = marks_of (map (λ s. some (house.mark s)) t.1.subframes);
       }
+
+  -- what encode answers
+  abbrev pub encode_answers : encoder.Answer
+  encode_answers = answer (encode_refusal (coder e) samples codewords) (Ok written) (λ n. encoder.refused n e)
+
+  by_number : (n : ℕ) → encode_refusal (coder e) samples codewords ≡ n
+      → Encodes e samples codewords (answer n (Ok written) (λ k. encoder.refused k e)) encoded.codewords
+  unfolding coder answer
+  by_number zero h =
+      let t = (coded (coder e) samples).1 in
+      encoder.done_keeps e samples codewords h written encoded.codewords refl (ending_stands t.ending) (marks_stand t.subframes)
+      (ap (λ r. r.codewords) (encode_done (coder e) samples codewords h))
+  by_number (suc n) h =
+      rw (ap (λ r. r.codewords) (encode_refused (coder e) samples codewords n h)) (encoder.refusal_keeps e samples codewords n h)
 
   -- and that it keeps the promise
   pub encode_can : Encodes e samples codewords encode_answers encoded.codewords
-  unfolding coder
-  encode_can =
-      record {
-        number = refl;
-        state = refl;
-        ending = ending_stands encoded.ending;
-        marks = marks_stand encoded.marks (encode_marks_length (coder e) samples codewords);
-        codewords = refl;
-      }
+  encode_can = by_number (encode_refusal (coder e) samples codewords) refl
 
 -- ---- decode
 
@@ -78,13 +91,24 @@ module _ (d : Decoder) (codewords samples : List ℤ) where
   decoded = answers.decode (memory d) codewords samples
 
   -- what decode answers
-  abbrev pub decode_answers : Decoded
-  decode_answers = record { number = decoded.number; state = decoder_of decoded.state }
+  abbrev pub decode_answers : decoder.Answer
+  decode_answers =
+      answer (decode_refusal (memory d) codewords samples) (Ok (decoder_of (heard (memory d) (received codewords)).0))
+      (λ n. decoder.refused n d)
+
+  by_number_too : (n : ℕ) → decode_refusal (memory d) codewords samples ≡ n
+      → let done : decoder.Answer = Ok (decoder_of (heard (memory d) (received codewords)).0) in
+      Decodes d codewords samples (answer n done (λ k. decoder.refused k d)) decoded.samples
+  unfolding memory answer
+  by_number_too zero h =
+      decoder.done_keeps d codewords samples (decoder_of (heard (memory d) (received codewords)).0) decoded.samples h refl
+      (ap (λ r. r.samples) (decode_done (memory d) codewords samples h))
+  by_number_too (suc n) h =
+      rw (ap (λ r. r.samples) (decode_refused (memory d) codewords samples n h)) (decoder.refusal_keeps d codewords samples n h)
 
   -- and that it keeps the promise
   pub decode_can : Decodes d codewords samples decode_answers decoded.samples
-  unfolding memory
-  decode_can = record { number = refl; state = refl; samples = refl }
+  decode_can = by_number_too (decode_refusal (memory d) codewords samples) refl
 
 -- ---- decode_alaw. (encode_alaw's promise is encode's, over the samples that the octets stand for)
 
@@ -93,13 +117,24 @@ module _ (d : Decoder) (codewords : List ℤ) (octets : List ℕ) where
   decoded_alaw = answers.decode_alaw (memory d) codewords octets
 
   -- what decode_alaw answers
-  abbrev pub decode_alaw_answers : Decoded
-  decode_alaw_answers = record { number = decoded_alaw.number; state = decoder_of decoded_alaw.state }
+  abbrev pub decode_alaw_answers : decoder.Answer
+  decode_alaw_answers =
+      answer (decode_alaw_refusal (memory d) codewords octets) (Ok (decoder_of (heard (memory d) (received codewords)).0))
+      (λ n. decoder.refused n d)
+
+  by_octets : (n : ℕ) → decode_alaw_refusal (memory d) codewords octets ≡ n
+      → let done : decoder.Answer = Ok (decoder_of (heard (memory d) (received codewords)).0) in
+      DecodesAlaw d codewords octets (answer n done (λ k. decoder.refused k d)) decoded_alaw.octets
+  unfolding memory answer decoder.state number_of
+  by_octets zero h =
+      let r = decode_alaw_done (memory d) codewords octets h in
+      record { number = rw r; state = rw r; octets = refl }
+  by_octets (suc n) h =
+      rw (ap (λ r. r.octets) (decode_alaw_refused (memory d) codewords octets n h)) (decoder.refusal_keeps_octets d codewords octets n h)
 
   -- and that it keeps the promise
   pub decode_alaw_can : DecodesAlaw d codewords octets decode_alaw_answers decoded_alaw.octets
-  unfolding memory
-  decode_alaw_can = record { number = refl; state = refl; octets = refl }
+  decode_alaw_can = by_octets (decode_alaw_refusal (memory d) codewords octets) refl
 
 -- ---- all of them, one call after another
 

@@ -10,19 +10,21 @@ use Rattle.law_refusals.specs.Rows.{Exactly}
 use Rattle.pcm_alaw.specs.Facts.{samples_words}
 use Rattle.encoder.specs.declared.Encoder.{Encoder}
 use Rattle.encoder.specs.Promise.{coder}
-use Rattle.encoder.specs.Calls as encoder
+use Rattle.encoder.specs.Promise as encoder
+use Rattle.encoder.specs.Calls as encoder-calls
 use Rattle.decoder.specs.declared.Decoder.{Decoder}
 use Rattle.decoder.specs.Promise.{memory, octets_decode}
-use Rattle.decoder.specs.Calls as decoder
+use Rattle.decoder.specs.Promise as decoder
+use Rattle.decoder.specs.Calls as decoder-calls
 use Rattle.law_ends.specs.Together.{Call, encodes, encodes_alaw, decodes, decodes_alaw, Ends, after, Made, Along, at_home}
 use Rattle.law_ends.specs.Demands.{encode_refuses, encode_alaw_refuses, decode_refuses, decode_alaw_refuses}
 
 -- a call's number
 unfoldable pub number : Call → ℕ
-number (encodes _ _ a _) = a.number
-number (encodes_alaw _ _ a _) = a.number
-number (decodes _ _ a _) = a.number
-number (decodes_alaw _ _ a _) = a.number
+number (encodes _ _ a _) = encoder.number a
+number (encodes_alaw _ _ a _) = encoder.number a
+number (decodes _ _ a _) = decoder.number a
+number (decodes_alaw _ _ a _) = decoder.number a
 
 -- both states are sound
 pub record Sound (t : Ends) : Type 0 where
@@ -45,29 +47,29 @@ not_third n l m xs ys good x g e =
 not_3 : (t : Ends) → Sound t → (c : Call) → Made t c → ¬ (number c ≡ 3)
 unfolding Made number
 not_3 t s (encodes samples codewords a left) (p, w) =
-    not_third a.number 160 76 samples codewords _ (encode_refuses t.encoder samples codewords a left p) s.encoder
+    not_third (encoder.number a) 160 76 samples codewords _ (encode_refuses t.encoder samples codewords a left p) s.encoder
 not_3 t s (encodes_alaw octets codewords a left) p =
-    not_third a.number 160 76 octets codewords _ (encode_alaw_refuses t.encoder octets codewords a left p) s.encoder
+    not_third (encoder.number a) 160 76 octets codewords _ (encode_alaw_refuses t.encoder octets codewords a left p) s.encoder
 not_3 t s (decodes codewords samples a left) p =
-    not_third a.number 160 76 samples codewords _ (decode_refuses t.decoder codewords samples a left p) s.decoder
+    not_third (decoder.number a) 160 76 samples codewords _ (decode_refuses t.decoder codewords samples a left p) s.decoder
 not_3 t s (decodes_alaw codewords octets a left) p =
-    not_third a.number 160 76 octets codewords _ (decode_alaw_refuses t.decoder codewords octets a left p) s.decoder
+    not_third (decoder.number a) 160 76 octets codewords _ (decode_alaw_refuses t.decoder codewords octets a left p) s.decoder
 
 -- and each call returns sound states
 still_sound : (t : Ends) → Sound t → (c : Call) → Made t c → Sound (after t c)
 unfolding Made after
 still_sound t s (encodes samples codewords a left) (p, w) =
-    record { encoder = encoder.state_sound t.encoder samples codewords a left p s.encoder w; decoder = s.decoder }
+    record { encoder = encoder-calls.state_sound t.encoder samples codewords a left p s.encoder w; decoder = s.decoder }
 still_sound t s (encodes_alaw octets codewords a left) p =
     record {
-      encoder = encoder.state_sound t.encoder (alaw_samples octets) codewords a left p s.encoder (samples_words octets);
+      encoder = encoder-calls.state_sound t.encoder (alaw_samples octets) codewords a left p s.encoder (samples_words octets);
       decoder = s.decoder;
     }
 still_sound t s (decodes codewords samples a left) p =
-    record { encoder = s.encoder; decoder = decoder.state_sound t.decoder codewords samples a left p s.decoder }
+    record { encoder = s.encoder; decoder = decoder-calls.state_sound t.decoder codewords samples a left p s.decoder }
 still_sound t s (decodes_alaw codewords octets a left) p =
     let q = octets_decode t.decoder codewords octets a left p in
-    record { encoder = s.encoder; decoder = decoder.state_sound t.decoder codewords _ a _ q s.decoder }
+    record { encoder = s.encoder; decoder = decoder-calls.state_sound t.decoder codewords _ a _ q s.decoder }
 
 -- from sound states on, whatever calls are made
 pub never_unsound : (t : Ends) → Sound t → (calls : List Call) → Along Made t calls → Along (λ _ c. ¬ (number c ≡ 3)) t calls
@@ -79,4 +81,4 @@ never_unsound t s (c ∷ calls) (m, made) = (not_3 t s c m, never_unsound (after
 pub never_unsound_from_home : (e : Encoder) (d : Decoder) → coder e ≡ home_coder → memory d ≡ home_decoder → (calls : List Call)
     → Along Made (at_home e d) calls → Along (λ _ c. ¬ (number c ≡ 3)) (at_home e d) calls
 never_unsound_from_home e d p q =
-    never_unsound (at_home e d) (record { encoder = encoder.home_sound e p; decoder = decoder.home_sound d q })
+    never_unsound (at_home e d) (record { encoder = encoder-calls.home_sound e p; decoder = decoder-calls.home_sound d q })

@@ -23,19 +23,19 @@ use Rattle.law_arithmetic.specs.Within.{word}
 use Rattle.pcm_alaw.specs.Facts.{samples_words}
 use Rattle.law_limits.specs.Sums.{SixSums}
 use Rattle.encoder.specs.declared.Encoder.{Encoder}
-use Rattle.encoder.specs.declared.Encoded.{Encoded}
+use Rattle.encoder.specs.Promise as encoder
 use Rattle.encoder.specs.Promise.{coder, Encodes}
 use Rattle.decoder.specs.declared.Decoder.{Decoder}
-use Rattle.decoder.specs.declared.Decoded.{Decoded}
+use Rattle.decoder.specs.Promise as decoder
 use Rattle.decoder.specs.Promise.{memory, Decodes, DecodesAlaw, octets_decode}
 use Rattle.law_ends.specs.Holds.{Holds, home_holds, encode_holds, encode_shows, decode_holds, decode_shows}
 
 -- a call as it was made: the two buffers passed, the answer, and what was left in the buffer that the call may alter
 pub data Call : Type 0 where
-  encodes : (samples codewords : List ℤ) (a : Encoded) (left : List ℤ) → Call
-  encodes_alaw : (octets : List ℕ) (codewords : List ℤ) (a : Encoded) (left : List ℤ) → Call
-  decodes : (codewords samples : List ℤ) (a : Decoded) (left : List ℤ) → Call
-  decodes_alaw : (codewords : List ℤ) (octets : List ℕ) (a : Decoded) (left : List ℕ) → Call
+  encodes : (samples codewords : List ℤ) (a : encoder.Answer) (left : List ℤ) → Call
+  encodes_alaw : (octets : List ℕ) (codewords : List ℤ) (a : encoder.Answer) (left : List ℤ) → Call
+  decodes : (codewords samples : List ℤ) (a : decoder.Answer) (left : List ℤ) → Call
+  decodes_alaw : (codewords : List ℤ) (octets : List ℕ) (a : decoder.Answer) (left : List ℕ) → Call
 
 -- both ends, and the frame that was returned and is not yet handed over
 pub record Ends : Type 0 where
@@ -44,11 +44,11 @@ pub record Ends : Type 0 where
   pub waiting : Option (List ℤ)
 
 -- after a call: the state that it returns; a frame waits once it is coded, and none waits once a frame is decoded
-abbrev pub sent : Ends → Encoded → List ℤ → Ends
-sent t a left = record { encoder = a.state; decoder = t.decoder; waiting = answer a.number (some left) (λ _. t.waiting) }
+abbrev pub sent : Ends → encoder.Answer → List ℤ → Ends
+sent t a left = record { encoder = encoder.state a; decoder = t.decoder; waiting = answer (encoder.number a) (some left) (λ _. t.waiting) }
 
-abbrev pub heard : Ends → Decoded → Ends
-heard t a = record { encoder = t.encoder; decoder = a.state; waiting = answer a.number none (λ _. t.waiting) }
+abbrev pub heard : Ends → decoder.Answer → Ends
+heard t a = record { encoder = t.encoder; decoder = decoder.state a; waiting = answer (decoder.number a) none (λ _. t.waiting) }
 
 unfoldable pub after : Ends → Call → Ends
 after t (encodes _ _ a left) = sent t a left
@@ -64,11 +64,11 @@ Made t (decodes codewords samples a left) = Decodes t.decoder codewords samples 
 Made t (decodes_alaw codewords octets a left) = DecodesAlaw t.decoder codewords octets a left
 
 -- the condition, which the caller has to meet
-abbrev pub MaySend : Ends → Encoded → Type 0
-MaySend t a = a.number ≡ 0 → t.waiting ≡ none
+abbrev pub MaySend : Ends → encoder.Answer → Type 0
+MaySend t a = encoder.number a ≡ 0 → t.waiting ≡ none
 
-abbrev pub MayHear : Ends → List ℤ → Decoded → Type 0
-MayHear t codewords a = a.number ≡ 0 → Option.map valid t.waiting ≡ some (valid codewords)
+abbrev pub MayHear : Ends → List ℤ → decoder.Answer → Type 0
+MayHear t codewords a = decoder.number a ≡ 0 → Option.map valid t.waiting ≡ some (valid codewords)
 
 unfoldable pub Handed : Ends → Call → Type 0
 Handed t (encodes _ _ a _) = MaySend t a
@@ -81,11 +81,12 @@ unfoldable pub lags : List ℤ → List ℤ
 lags codewords = map (λ f. f.Nc) (received codewords).subframes
 
 -- what is shown of a frame that was coded, and of one that was decoded
-abbrev pub Fitting : Ends → List ℤ → Encoded → List ℤ → Type 0
-Fitting t samples a left = a.number ≡ 0 → (fits left ≡ true) × (every is_lag (lags left) ≡ true) × SixSums (coder t.encoder) samples
+abbrev pub Fitting : Ends → List ℤ → encoder.Answer → List ℤ → Type 0
+Fitting t samples a left = encoder.number a ≡ 0 → (fits left ≡ true) × (every is_lag (lags left) ≡ true) × SixSums (coder t.encoder) samples
 
-abbrev pub Same : Ends → Decoded → Type 0
-Same t a = a.number ≡ 0 → ((coder t.encoder).dp ≡ (memory a.state).drp) × ((coder t.encoder).LARpp ≡ (memory a.state).LARpp)
+abbrev pub Same : Ends → decoder.Answer → Type 0
+Same t a = decoder.number a ≡ 0 → ((coder t.encoder).dp ≡ (memory (decoder.state a)).drp)
+    × ((coder t.encoder).LARpp ≡ (memory (decoder.state a)).LARpp)
 
 unfoldable pub Shown : Ends → Call → Type 0
 Shown t (encodes samples _ a left) = Fitting t samples a left
@@ -113,23 +114,23 @@ together e d p q = along_calls (at_home e d) (rw (p, q) home_holds)
     Held t = Holds (coder t.encoder) (memory t.decoder) t.waiting
 
     -- a frame that is coded, or refused, keeps it
-    kept_sent : (t : Ends) (samples codewords : List ℤ) (a : Encoded) (left : List ℤ)
+    kept_sent : (t : Ends) (samples codewords : List ℤ) (a : encoder.Answer) (left : List ℤ)
         → Encodes t.encoder samples codewords a left → every word samples ≡ true → MaySend t a → Held t → Held (sent t a left)
     kept_sent t samples codewords a left m w k h =
         rw (m.state, m.number, m.codewords) (encode_holds _ _ _ samples codewords h w (rw m.number at k))
 
     -- and is as it is shown
-    shown_sent : (t : Ends) (samples codewords : List ℤ) (a : Encoded) (left : List ℤ)
+    shown_sent : (t : Ends) (samples codewords : List ℤ) (a : encoder.Answer) (left : List ℤ)
         → Encodes t.encoder samples codewords a left → every word samples ≡ true → Held t → Fitting t samples a left
     shown_sent t samples codewords a left m w h =
         λ n. rw m.codewords (encode_shows _ _ _ samples codewords h w (rw m.number at n))
 
     -- so is one that is decoded
-    kept_heard : (t : Ends) (codewords samples : List ℤ) (a : Decoded) (left : List ℤ)
+    kept_heard : (t : Ends) (codewords samples : List ℤ) (a : decoder.Answer) (left : List ℤ)
         → Decodes t.decoder codewords samples a left → MayHear t codewords a → Held t → Held (heard t a)
     kept_heard t codewords samples a left m k h = rw (m.state, m.number) (decode_holds _ _ _ codewords samples h (rw m.number at k))
 
-    shown_heard : (t : Ends) (codewords samples : List ℤ) (a : Decoded) (left : List ℤ)
+    shown_heard : (t : Ends) (codewords samples : List ℤ) (a : decoder.Answer) (left : List ℤ)
         → Decodes t.decoder codewords samples a left → MayHear t codewords a → Held t → Same t a
     shown_heard t codewords samples a left m k h =
         λ n.

@@ -18,15 +18,13 @@ use Rattle.standard.specs.ZeroFrame.{zero_frame}
 use Rattle.law_refusals.specs.Rows.{Exactly}
 use Rattle.law_refusals.specs.Calls.{encode_exactly, decode_exactly}
 use Rattle.encoder.specs.declared.Encoder.{Encoder}
-use Rattle.encoder.specs.declared.Ending.TheVariants as Ending-of
-use Rattle.encoder.specs.declared.Mark.TheVariants as Mark-of
-use Rattle.encoder.specs.declared.Encoded.{Encoded}
-use Rattle.encoder.specs.Promise.{coder, ending, mark, marks, Encodes, same_ending, refused}
-use Rattle.encoder.specs.Calls as encoder
+use Rattle.encoder.specs.Promise as encoder
+use Rattle.encoder.specs.Promise.{coder, ending, marks, Encodes, refused}
+use Rattle.encoder.specs.Calls as encoder-calls
 use Rattle.decoder.specs.declared.Decoder.{Decoder}
-use Rattle.decoder.specs.declared.Decoded.{Decoded}
 use Rattle.decoder.specs.Promise.{memory, Decodes, DecodesAlaw}
-use Rattle.decoder.specs.Calls as decoder
+use Rattle.decoder.specs.Promise as decoder
+use Rattle.decoder.specs.Calls as decoder-calls
 use Rattle.law_ends.specs.Example.{idle, pulses, first_frame, second_frame}
 use Rattle.law_ends.specs.Demands.{encode_refuses, encode_hands_back, encode_alaw_refuses, decode_refuses, decode_alaw_refuses}
 
@@ -68,24 +66,25 @@ none_found (suc n) (suc i) = none_found n i
 
 -- ---- refusing everything: what the house rules do not refuse is done
 
-pub refuses_samples : (e : Encoder) (samples lent : List ℤ) (a : Encoded) (left : List ℤ)
-    → length samples ≡ 160 → length lent ≡ 76 → sound_coder (coder e) ≡ true → ¬ (a.number ≡ 0) → ¬ Encodes e samples lent a left
+pub refuses_samples : (e : Encoder) (samples lent : List ℤ) (a : encoder.Answer) (left : List ℤ)
+    → length samples ≡ 160 → length lent ≡ 76 → sound_coder (coder e) ≡ true → ¬ (encoder.number a ≡ 0) → ¬ Encodes e samples lent a left
 refuses_samples e samples lent a left l k s n p =
-    n (encoder.number_is e samples lent a left p ∙ (encode_exactly (coder e) samples lent).allows l k s)
+    n (encoder-calls.number_is e samples lent a left p ∙ (encode_exactly (coder e) samples lent).allows l k s)
 
-pub refuses_frames : (d : Decoder) (codewords lent : List ℤ) (a : Decoded) (left : List ℤ)
-    → length lent ≡ 160 → length codewords ≡ 76 → sound_decoder (memory d) ≡ true → ¬ (a.number ≡ 0) → ¬ Decodes d codewords lent a left
+pub refuses_frames : (d : Decoder) (codewords lent : List ℤ) (a : decoder.Answer) (left : List ℤ)
+    → length lent ≡ 160 → length codewords ≡ 76 → sound_decoder (memory d) ≡ true → ¬ (decoder.number a ≡ 0)
+    → ¬ Decodes d codewords lent a left
 refuses_frames d codewords lent a left l k s n p =
-    n (decoder.number_is d codewords lent a left p ∙ (decode_exactly (memory d) codewords lent).allows l k s)
+    n (decoder-calls.number_is d codewords lent a left p ∙ (decode_exactly (memory d) codewords lent).allows l k s)
 
 -- the same for octets
-pub refuses_octets : (e : Encoder) (octets : List ℕ) (lent : List ℤ) (a : Encoded) (left : List ℤ)
-    → length octets ≡ 160 → length lent ≡ 76 → sound_coder (coder e) ≡ true → ¬ (a.number ≡ 0)
+pub refuses_octets : (e : Encoder) (octets : List ℕ) (lent : List ℤ) (a : encoder.Answer) (left : List ℤ)
+    → length octets ≡ 160 → length lent ≡ 76 → sound_coder (coder e) ≡ true → ¬ (encoder.number a ≡ 0)
     → ¬ Encodes e (alaw_samples octets) lent a left
 refuses_octets e octets lent a left l k s n p = n ((encode_alaw_refuses e octets lent a left p).allows l k s)
 
-pub refuses_heard : (d : Decoder) (codewords : List ℤ) (lent : List ℕ) (a : Decoded) (left : List ℕ)
-    → length lent ≡ 160 → length codewords ≡ 76 → sound_decoder (memory d) ≡ true → ¬ (a.number ≡ 0)
+pub refuses_heard : (d : Decoder) (codewords : List ℤ) (lent : List ℕ) (a : decoder.Answer) (left : List ℕ)
+    → length lent ≡ 160 → length codewords ≡ 76 → sound_decoder (memory d) ≡ true → ¬ (decoder.number a ≡ 0)
     → ¬ DecodesAlaw d codewords lent a left
 refuses_heard d codewords lent a left l k s n p = n ((decode_alaw_refuses d codewords lent a left p).allows l k s)
 
@@ -94,13 +93,13 @@ refuses_heard d codewords lent a left l k s n p = n ((decode_alaw_refuses d code
 taken : {A B : Type 0} (n : ℕ) (xs : List A) (ys : List B) (good : Bool) → Exactly n 160 76 1 2 3 xs ys good → good ≡ false → ¬ (n ≡ 0)
 taken n xs ys good x h e = true≢false (sym (x.allowed e).2 ∙ h)
 
-pub unsound_coded : (e : Encoder) (samples lent : List ℤ) (a : Encoded) (left : List ℤ)
-    → sound_coder (coder e) ≡ false → a.number ≡ 0 → ¬ Encodes e samples lent a left
-unsound_coded e samples lent a left h n p = taken a.number samples lent _ (encode_refuses e samples lent a left p) h n
+pub unsound_coded : (e : Encoder) (samples lent : List ℤ) (a : encoder.Answer) (left : List ℤ)
+    → sound_coder (coder e) ≡ false → encoder.number a ≡ 0 → ¬ Encodes e samples lent a left
+unsound_coded e samples lent a left h n p = taken (encoder.number a) samples lent _ (encode_refuses e samples lent a left p) h n
 
-pub unsound_decoded : (d : Decoder) (codewords lent : List ℤ) (a : Decoded) (left : List ℤ)
-    → sound_decoder (memory d) ≡ false → a.number ≡ 0 → ¬ Decodes d codewords lent a left
-unsound_decoded d codewords lent a left h n p = taken a.number lent codewords _ (decode_refuses d codewords lent a left p) h n
+pub unsound_decoded : (d : Decoder) (codewords lent : List ℤ) (a : decoder.Answer) (left : List ℤ)
+    → sound_decoder (memory d) ≡ false → decoder.number a ≡ 0 → ¬ Decodes d codewords lent a left
+unsound_decoded d codewords lent a left h n p = taken (decoder.number a) lent codewords _ (decode_refuses d codewords lent a left p) h n
 
 -- ---- the codewords counted before the samples or the octets: number 2 where the samples or the octets are already wrong
 
@@ -108,23 +107,24 @@ second_first : {A B : Type 0} (n : ℕ) (xs : List A) (ys : List B) (good : Bool
     → Exactly n 160 76 1 2 3 xs ys good → ¬ (length xs ≡ 160) → ¬ (n ≡ 2)
 second_first n xs ys good x h e = let first = x.first h in absurd (omega arith)
 
-pub codewords_first : (e : Encoder) (samples lent : List ℤ) (a : Encoded) (left : List ℤ)
-    → ¬ (length samples ≡ 160) → a.number ≡ 2 → ¬ Encodes e samples lent a left
-codewords_first e samples lent a left h n p = second_first a.number samples lent _ (encode_refuses e samples lent a left p) h n
+pub codewords_first : (e : Encoder) (samples lent : List ℤ) (a : encoder.Answer) (left : List ℤ)
+    → ¬ (length samples ≡ 160) → encoder.number a ≡ 2 → ¬ Encodes e samples lent a left
+codewords_first e samples lent a left h n p = second_first (encoder.number a) samples lent _ (encode_refuses e samples lent a left p) h n
 
-pub codewords_first_octets : (e : Encoder) (octets : List ℕ) (lent : List ℤ) (a : Encoded) (left : List ℤ)
-    → ¬ (length octets ≡ 160) → a.number ≡ 2 → ¬ Encodes e (alaw_samples octets) lent a left
-codewords_first_octets e octets lent a left h n p = second_first a.number octets lent _ (encode_alaw_refuses e octets lent a left p) h n
+pub codewords_first_octets : (e : Encoder) (octets : List ℕ) (lent : List ℤ) (a : encoder.Answer) (left : List ℤ)
+    → ¬ (length octets ≡ 160) → encoder.number a ≡ 2 → ¬ Encodes e (alaw_samples octets) lent a left
+codewords_first_octets e octets lent a left h n p = second_first (encoder.number a) octets lent _
+    (encode_alaw_refuses e octets lent a left p) h n
 
-pub codewords_first_heard : (d : Decoder) (codewords lent : List ℤ) (a : Decoded) (left : List ℤ)
-    → ¬ (length lent ≡ 160) → a.number ≡ 2 → ¬ Decodes d codewords lent a left
+pub codewords_first_heard : (d : Decoder) (codewords lent : List ℤ) (a : decoder.Answer) (left : List ℤ)
+    → ¬ (length lent ≡ 160) → decoder.number a ≡ 2 → ¬ Decodes d codewords lent a left
 codewords_first_heard d codewords lent a left h n p =
-    second_first a.number lent codewords _ (decode_refuses d codewords lent a left p) h n
+    second_first (decoder.number a) lent codewords _ (decode_refuses d codewords lent a left p) h n
 
-pub codewords_first_heard_octets : (d : Decoder) (codewords : List ℤ) (lent : List ℕ) (a : Decoded) (left : List ℕ)
-    → ¬ (length lent ≡ 160) → a.number ≡ 2 → ¬ DecodesAlaw d codewords lent a left
+pub codewords_first_heard_octets : (d : Decoder) (codewords : List ℤ) (lent : List ℕ) (a : decoder.Answer) (left : List ℕ)
+    → ¬ (length lent ≡ 160) → decoder.number a ≡ 2 → ¬ DecodesAlaw d codewords lent a left
 codewords_first_heard_octets d codewords lent a left h n p =
-    second_first a.number lent codewords _ (decode_alaw_refuses d codewords lent a left p) h n
+    second_first (decoder.number a) lent codewords _ (decode_alaw_refuses d codewords lent a left p) h n
 
 -- ---- from home: what pulses, silence and their frames give, computed
 
@@ -186,20 +186,20 @@ module _ (d : Decoder) (h : memory d ≡ home_decoder) where
   filled_home n p = unlike (suc n) 0 (omega arith) (sym p ∙ ap (λ m. m.drp at 0) h)
 
 -- a refusal that gives an ending: it says silent
-pub refused_as_silent : (e : Encoder) (samples lent : List ℤ) (a : Encoded) (left : List ℤ) → Encodes e samples lent a left
-    → (n : ℕ) → a.number ≡ suc n → ¬ (a.ending ≡ Ending-of.Silent)
+pub refused_as_silent : (e : Encoder) (samples lent : List ℤ) (a : encoder.Answer) (left : List ℤ) → Encodes e samples lent a left
+    → (n : ℕ) → encoder.number a ≡ suc n → ¬ (ending a ≡ some lpc.silent)
 unfolding ending refused NotAbsent
 refused_as_silent e samples lent a left p n h s =
-    let none_said : a.ending ≡ Ending-of.Absent = ap (λ (b : Encoded). b.ending) (encode_hands_back e samples lent a left p n h).0 in
-    subst NotAbsent (ap ending (sym s ∙ none_said)) tt
+    let none_said : ending a ≡ none = ap ending (encode_hands_back e samples lent a left p n h).0 in
+    subst NotAbsent (sym s ∙ none_said) tt
 
-module _ (e : Encoder) (h : coder e ≡ home_coder) (a : Encoded) (w : List ℤ) (p : Encodes e pulses (zeros 76) a w) where
+module _ (e : Encoder) (h : coder e ≡ home_coder) (a : encoder.Answer) (w : List ℤ) (p : Encodes e pulses (zeros 76) a w) where
   -- the frame is the one computed
   own : w ≡ first_frame
   own = p.codewords ∙ ap (λ c. (answers.encode c pulses (zeros 76)).codewords) h ∙ computed.frame
 
   -- one constant frame: silence gives another frame than the pulses
-  pub constant_frame : (b : Encoded) → ¬ Encodes e (zeros 160) (zeros 76) b w
+  pub constant_frame : (b : encoder.Answer) → ¬ Encodes e (zeros 160) (zeros 76) b w
   unfolding first_frame zero_frame
   constant_frame b q =
       let same : first_frame ≡ zero_frame
@@ -208,10 +208,10 @@ module _ (e : Encoder) (h : coder e ≡ home_coder) (a : Encoded) (w : List ℤ)
       unlike 42 32 (omega arith) (ap (λ c. c at 0) same)
 
   -- a coder left untouched
-  pub untouched_coder : ¬ (a.state ≡ e)
+  pub untouched_coder : ¬ (encoder.state a ≡ e)
   unfolding home_coder
   untouched_coder s =
-      let moved : (coder a.state).dp at 0 ≡ pos 3808
+      let moved : (coder (encoder.state a)).dp at 0 ≡ pos 3808
       = ap (λ c. c.dp at 0) p.state ∙ ap (λ c. (answers.encode c pulses (zeros 76)).state.dp at 0) h ∙ computed.oldest
       in
       unlike 3808 0 (omega arith) (sym moved ∙ ap (λ c. c.dp at 0) (ap coder s ∙ h))
@@ -227,52 +227,51 @@ module _ (e : Encoder) (h : coder e ≡ home_coder) (a : Encoded) (w : List ℤ)
   first_again z = unlike 3 0 (omega arith) (sym (ap (λ c. drop 25 c at 1) own) ∙ (z ∙ ap (λ c. drop 8 c at 1) own))
 
   -- an invented stop: the recursion is complete
-  pub invented_stop : (n : ℕ) → ¬ (a.ending ≡ Ending-of.Stopped n)
-  unfolding ending NotStopped
+  pub invented_stop : (n : ℕ) → ¬ (ending a ≡ some (lpc.stopped n))
+  unfolding NotStopped
   invented_stop n s =
-      let whole : ending a.ending ≡ some lpc.complete
+      let whole : ending a ≡ some lpc.complete
       = p.ending ∙ ap (λ c. (answers.encode c pulses (zeros 76)).ending) h ∙ computed.ending
       in
-      subst NotStopped (sym whole ∙ ap ending s) tt
+      subst NotStopped (sym whole ∙ s) tt
 
   -- every lag marked "rule": that of the second pulse is found
-  pub dropped_found : ¬ (a.marks.second ≡ Mark-of.Rule)
-  unfolding mark marks says_found
+  pub dropped_found : ¬ (get_or (marks a) 1 none ≡ some house.rule)
+  unfolding says_found
   dropped_found s =
-      let measured : mark a.marks.second ≡ some house.found
+      let measured : get_or (marks a) 1 none ≡ some house.found
       = ap (λ ms. get_or ms 1 none) (p.marks ∙ ap (λ c. (answers.encode c pulses (zeros 76)).marks) h ∙ computed.marks)
       in
-      true≢false (ap says_found (sym measured ∙ ap mark s))
+      true≢false (ap says_found (sym measured ∙ s))
 
 -- another stop number, or none: where the recursion stopped at n, the answer says so
-pub stop_said : (e : Encoder) (samples lent : List ℤ) (a : Encoded) (left : List ℤ) → Encodes e samples lent a left
-    → (n : ℕ) → (answers.encode (coder e) samples lent).ending ≡ some (lpc.stopped n) → a.ending ≡ Ending-of.Stopped n
-unfolding ending
-stop_said e samples lent a left p n s = same_ending a.ending (Ending-of.Stopped n) (p.ending ∙ s)
+pub stop_said : (e : Encoder) (samples lent : List ℤ) (a : encoder.Answer) (left : List ℤ) → Encodes e samples lent a left
+    → (n : ℕ) → (answers.encode (coder e) samples lent).ending ≡ some (lpc.stopped n) → ending a ≡ some (lpc.stopped n)
+stop_said e samples lent a left p n s = p.ending ∙ s
 
 -- every lag marked "found": in silence none is
-pub invented_found : (e : Encoder) → coder e ≡ home_coder → (a : Encoded) (w : List ℤ) → Encodes e (zeros 160) (zeros 76) a w
-    → (i : ℕ) → ¬ (get_or (marks a.marks) i none ≡ some house.found)
+pub invented_found : (e : Encoder) → coder e ≡ home_coder → (a : encoder.Answer) (w : List ℤ) → Encodes e (zeros 160) (zeros 76) a w
+    → (i : ℕ) → ¬ (get_or (marks a) i none ≡ some house.found)
 unfolding says_found
 invented_found e h a w p i s =
-    let none-measured : marks a.marks ≡ replicate 4 (some house.rule)
+    let none-measured : marks a ≡ replicate 4 (some house.rule)
     = p.marks ∙ ap (λ c. (answers.encode c (zeros 160) (zeros 76)).marks) h ∙ computed.silent_marks
     in
     true≢false (sym (ap says_found (ap (λ ms. get_or ms i none) (sym none-measured) ∙ s)) ∙ none_found 4 i)
 
 -- the ending dropped: silence answered as complete
-pub dropped_ending : (e : Encoder) → coder e ≡ home_coder → (a : Encoded) (w : List ℤ) → Encodes e (zeros 160) (zeros 76) a w
-    → ¬ (a.ending ≡ Ending-of.Complete)
-unfolding ending NotComplete
+pub dropped_ending : (e : Encoder) → coder e ≡ home_coder → (a : encoder.Answer) (w : List ℤ) → Encodes e (zeros 160) (zeros 76) a w
+    → ¬ (ending a ≡ some lpc.complete)
+unfolding NotComplete
 dropped_ending e h a w p s =
-    let none-measured : ending a.ending ≡ some lpc.silent
+    let none-measured : ending a ≡ some lpc.silent
     = p.ending ∙ ap (λ c. (answers.encode c (zeros 160) (zeros 76)).ending) h ∙ computed.silent_ending
     in
-    subst NotComplete (sym none-measured ∙ ap ending s) tt
+    subst NotComplete (sym none-measured ∙ s) tt
 
-module _ (d : Decoder) (h : memory d ≡ home_decoder) (a : Decoded) (w : List ℤ) (p : Decodes d first_frame (zeros 160) a w) where
+module _ (d : Decoder) (h : memory d ≡ home_decoder) (a : decoder.Answer) (w : List ℤ) (p : Decodes d first_frame (zeros 160) a w) where
   -- the same samples for every frame
-  pub constant_samples : (b : Decoded) → ¬ Decodes d second_frame (zeros 160) b w
+  pub constant_samples : (b : decoder.Answer) → ¬ Decodes d second_frame (zeros 160) b w
   constant_samples b q =
       let own : w at 0 ≡ pos 3584
       = ap (λ c. c at 0) (p.samples ∙ ap (λ m. (answers.decode m first_frame (zeros 160)).samples) h) ∙ computed.first_sample
@@ -283,16 +282,16 @@ module _ (d : Decoder) (h : memory d ≡ home_decoder) (a : Decoded) (w : List �
       unlike 3584 0 (omega arith) (sym own ∙ other)
 
   -- a decoder left untouched
-  pub untouched_decoder : ¬ (a.state ≡ d)
+  pub untouched_decoder : ¬ (decoder.state a ≡ d)
   unfolding home_decoder
   untouched_decoder s =
-      let moved : (memory a.state).drp at 0 ≡ pos 3808
+      let moved : (memory (decoder.state a)).drp at 0 ≡ pos 3808
       = ap (λ m. m.drp at 0) p.state ∙ ap (λ m. (answers.decode m first_frame (zeros 160)).state.drp at 0) h ∙ computed.decoded_oldest
       in
       unlike 3808 0 (omega arith) (sym moved ∙ ap (λ m. m.drp at 0) (ap memory s ∙ h))
 
 -- the same octets for every frame
-pub constant_octets : (d : Decoder) → memory d ≡ home_decoder → (a b : Decoded) (w : List ℕ)
+pub constant_octets : (d : Decoder) → memory d ≡ home_decoder → (a b : decoder.Answer) (w : List ℕ)
     → DecodesAlaw d first_frame (idle 160) a w → ¬ DecodesAlaw d second_frame (idle 160) b w
 constant_octets d h a b w p q =
     let own : get_or w 0 0 ≡ 153
@@ -304,7 +303,8 @@ constant_octets d h a b w p q =
     absurd (omega arith)
 
 -- the frame of silence for an idle line: D5 is sample 8
-pub idle_as_silence : (e : Encoder) → coder e ≡ home_coder → (a : Encoded) → ¬ Encodes e (alaw_samples (idle 160)) (zeros 76) a zero_frame
+pub idle_as_silence : (e : Encoder) → coder e ≡ home_coder → (a : encoder.Answer)
+    → ¬ Encodes e (alaw_samples (idle 160)) (zeros 76) a zero_frame
 unfolding zero_frame
 idle_as_silence e h a p =
     let own : zero_frame at 0 ≡ pos 9

@@ -22,11 +22,8 @@ pub fn limits(e: Encoder, samples: &[i16])
         → SixSums (coder e) samples.now }
     ensures shifts { length samples.now ≡ 160 → LeftShifts (coder e) samples.now }
 {
-    let larpp = e.larpp;
-    let u = e.u;
-    let dp = e.dp;
-    long_search::each_a_word(&larpp);
-    long_search::each_a_word(&u);
-    long_search::each_a_word(&dp);
+    long_search::each_a_word(&e.larpp);
+    long_search::each_a_word(&e.u);
+    long_search::each_a_word(&e.dp);
     long_search::each_a_word(samples);
 }

@@ -16,6 +16,8 @@ use Rattle.standard.specs.Packed.{binary, value, packed, byte_bits, unpacked, sp
 use Rattle.standard.specs.House.{refusal, not_of, codewords_row, bytes_row, fields_row, spare_row, fits, pack_refusal, unpack_refusal}
 use Rattle.law_refusals.specs.Rows.{refusal_none}
 use Rattle.law_refusals.specs.Calls.{pack_exactly, pack_done, pack_refused, unpack_exactly, unpack_done, unpack_refused}
+use Rattle.refusals.specs.declared.Refusal.{Refusal}
+use Rattle.refusals.specs.Numbers.{number, refused_above}
 use Rattle.packing.specs.Bits.{binary_length, value_binary, binary_split, binary_zero}
 use Rattle.packing.specs.Promise.{Packs, Unpacks}
 
@@ -52,6 +54,10 @@ module _ (c : List ℤ) (b : List ℕ) where
   pack_lengths zero e h = absurd (h refl)
   pack_lengths (suc n) e h = refuses n (refusal_first (length_rows c b) (fields_row c ∷ []) n (sym e))
 
+  -- so for the refusal of that number
+  pub pack_refused_lengths : (r : Refusal) → number r ≡ refusal (length_rows c b) → Packs c b (number r) b
+  pack_refused_lengths r e = pack_lengths (number r) e (λ z. absurd (omega (arith, refused_above r)))
+
   -- a codeword does not fit its field
   pub pack_5 : length c ≡ 76 → length b ≡ 33 → fits c ≡ false → Packs c b 5 b
   pack_5 h g e = refuses 4 ((pack_exactly c b).third h g e)
@@ -72,6 +78,10 @@ module _ (b : List ℕ) (w : List ℤ) where
   unfolding unpack_refusal
   unpack_lengths zero e h = absurd (h refl)
   unpack_lengths (suc n) e h = refuses_too n (refusal_first (length_rows w b) (spare_row b ∷ []) n (sym e))
+
+  -- so for the refusal of that number
+  pub unpack_refused_lengths : (r : Refusal) → number r ≡ refusal (length_rows w b) → Unpacks b w (number r) w
+  unpack_refused_lengths r e = unpack_lengths (number r) e (λ z. absurd (omega (arith, refused_above r)))
 
   -- a spare bit is 1
   pub unpack_6 : length w ≡ 76 → length b ≡ 33 → every (eqb 0) (spare b) ≡ false → Unpacks b w 6 w

@@ -1,7 +1,7 @@
 -- pack's way over a frame, and unpack's: what a turn needs and does, where the queue stands after the ratios and after each
 -- sub-frame, and that the last turn leaves the definition's result.
-use Rattle.std.specs.Prelude.{◌≡◌, refl, true, ℕ, suc, ◌+◌, ◌-◌, ◌*◌, ◌/◌, ◌%◌, ◌^◌, ◌≤◌, ◌<◌, ℤ, pos, nat_abs, length, get_or, set, drop}
-use Rattle.std.proofs.Common.{sym, ◌∙◌, arith, pow_mono, drop_of_length-le, drop-cons}
+use Rattle.std.specs.Prelude.{◌≡◌, refl, true, ℕ, suc, ◌+◌, ◌-◌, ◌*◌, ◌/◌, ◌%◌, ◌^◌, ◌≤◌, ◌<◌, ℤ, pos, nat_abs, length, get_or, set, take, drop}
+use Rattle.std.proofs.Common.{sym, ap, ◌∙◌, arith, length-take, length-drop, get_or-take, get_or-drop, pow_mono, drop_of_length-le, drop-cons}
 use mathlib.Core.List.{List, [], append-nil, flatten, zip_with}
 use Rattle.std.proofs.lemmas.List.{get_or-replicate}
 use Rattle.math_integers.specs.Halves.{P, N, abs_is}
@@ -56,6 +56,15 @@ unpacking_whole b h = rw (append-nil, byte_bits_is b h)
 -- no field holds more than 128 values
 pub limit_most : (i : ℕ) → 2 ^ get_or widths i 0 ≤ 128
 limit_most i = pow_mono (width_most i)
+
+-- where bits are the widths of some fields in turn, from field `from` on, each is the width of its field
+pub field_at : (bits : List ℕ) (from i : ℕ) → bits ≡ take (length bits) (drop from widths) → i < length bits
+    → (from + i < 76) × (get_or bits i 0 ≡ get_or widths (from + i) 0)
+field_at bits from i e l =
+    let n = field_count in
+    let m = ap length e in
+    let k : from + i < 76 = omega (arith, m, length-take (length bits) (drop from widths), length-drop from widths) in
+    (k, ap (λ (b : List ℕ). get_or b i 0) e ∙ (get_or-take (length bits) (drop from widths) i 0 l ∙ get_or-drop from widths i 0))
 
 -- a codeword of a frame that fits is not negative, and below its field's limit
 pub word_below : (c : List ℤ) (i : ℕ) → length c ≡ 76 → fits c ≡ true → i < 76

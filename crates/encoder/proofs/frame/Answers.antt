@@ -1,25 +1,24 @@
 -- The steps in order: the analysis is the definition's, from the state as it was passed; the codes of the ratios are the first
 -- eight codewords; the sub-frames read d and the history. What the steps give is put together by the laws of `Whole`.
-use Prim.Native.Nat.{◌≤◌}
 use mathlib.Core.Path.{◌≡◌, refl, ap, ap₂, ◌∙◌}
-use mathlib.Core.Option.{some}
-use mathlib.Core.List.{List, ◌++◌}
+use mathlib.Core.List.{List, ◌++◌, map}
 use native.Mathlib.Omega.{arith}
 use lib.IntN.{ℤ, pos}
-use lib.ListN.{length, take, drop, replicate, length-replicate, length-drop}
-use lib.Seq.{take_at, drop-append-le}
+use lib.ListN.{length, take, drop, replicate, length-drop}
+use Rattle.std.proofs.lemmas.List.{take_all}
+use Prim.Native.Nat.{◌≤◌}
+use lib.Seq.{take_at}
 use mir.Syntax.{w16, w32}
 use mir.Val.{SFits}
 use borrow.Author.Rules.{rules}
 use Rattle.math_integers.specs.Ranges.{back}
-use Rattle.math_lists.specs.Parts.{front_back, front_room}
+use Rattle.math_lists.specs.Parts.{front_back}
 use Rattle.standard.specs.Coder.{Coder, analysis}
 use Rattle.standard.specs.House.{sound_coder}
-use Rattle.law_lengths.specs.Analysis.{analysis_codes_length, analysis_d_length}
+use Rattle.law_lengths.specs.Analysis.{analysis_codes_length}
 use Rattle.lpc_reflection.specs.Promise.{ended}
-use Rattle.long_history.specs.Window.{lent_history}
 use Rattle.frame_analysis.specs.Whole.{coder_of}
-use Rattle.encoder.specs.Promise.{coder, marks}
+use Rattle.encoder.specs.Promise.{coder, mark}
 use Rattle.encoder.specs.Subframes.{dp₄, four_words, four_marks, four_added, four_length, four_last}
 use Rattle.encoder.specs.Whole.{unseen, with_history, steps_are}
 use Rattle.encoder.proofs.frame.Goals as goal
@@ -48,18 +47,13 @@ module _ (s : Start) where
   history : length s.args.e.dp ≡ 120
   history = search rules
 
-  d_length : length d-of ≡ 160
-  d_length = analysis_d_length (unseen c_of) sop ∙ omega (arith, s.requires.0)
-
 -- ---- the steps
 
 pub frame-a-requires : goal.frame-a-requires
 unfolding coder sound_coder
 frame-a-requires c =
-    let s = (goal.at.frame-a-requires c).Start in (
-      c.requires.0,
-      (ap length (ap (take 160) c.room-d.ensures), rw (back {w = w16} (z1_fits s), back {w = w32} (l_z2_fits s)) c.requires.1.1),
-    )
+    let s = (goal.at.frame-a-requires c).Start in
+    (c.requires.0, (refl, rw (back {w = w16} (z1_fits s), back {w = w32} (l_z2_fits s)) c.requires.1.1))
 
 -- 4.2.0 to 4.2.10
 module _ (t : After-frame-a) where
@@ -93,13 +87,6 @@ module _ (t : After-frame-a) where
   mp_after : SFits w16 t.frame-a.result.next.mp
   mp_after = search rules
 
-  -- d as the sub-frames read it, at the front of the buffer that was passed
-  d_back : (rest : List ℤ) → take 160 (t.frame-a.new.signal ++ rest) ≡ d-of start
-  d_back = front_back 160 d-is (d_length start)
-
-  d_room : (rest : List ℤ) → 160 ≤ length (t.frame-a.new.signal ++ rest)
-  d_room = front_room 160 d-is (d_length start)
-
 -- 4.2.11 to 4.2.18
 module _ (q : After-sub_frames-marks) where
   abbrev found : After-frame-a
@@ -109,45 +96,29 @@ module _ (q : After-sub_frames-marks) where
   begun = start found
 
   -- the history as the sub-frames read it
-  dp_lent : take 120 (take 280 q.remembered-dp.result) ≡ begun.args.e.dp
-  dp_lent =
-      ap (λ (y : List ℤ). take 120 (take 280 y)) q.remembered-dp.ensures
-      ∙ lent_history begun.args.e.dp (replicate 160 (pos 0)) (history begun) (length-replicate 160 (pos 0))
+  dp_lent : take 120 q.remembered-dp.result ≡ begun.args.e.dp
+  dp_lent = ap (take 120) q.remembered-dp.ensures ∙ take_at begun.args.e.dp (replicate 160 (pos 0)) 120 (history begun)
 
   -- the codes of the ratios in front of the codewords
-  larc_put : q.ratios.new.c ≡ q.frame-a.result.larc
-  larc_put = q.ratios.ensures
-
-  larc_lent : (rest : List ℤ) → take 8 (q.ratios.new.c ++ rest) ≡ q.frame-a.result.larc
+  larc_lent : (rest : List ℤ) → take 8 (q.copy_from_slice.new.self ++ rest) ≡ q.frame-a.result.larc
   larc_lent rest =
       let l = ap length (analysed_is found).1.0 ∙ analysis_codes_length (unseen (c_of begun)) (sop begun) in
-      front_back 8 larc_put l rest
+      front_back 8 q.copy_from_slice.ensures.after l rest
 
-  marks_given : marks q.sub_frames-marks.result ≡ four_marks begun.args.e.dp (d-of begun)
-  marks_given = q.sub_frames-marks.ensures.marks ∙ ap₂ four_marks dp_lent (d_back found _)
+  marks_given : map mark q.sub_frames-marks.result ≡ four_marks begun.args.e.dp (d-of begun)
+  marks_given = q.sub_frames-marks.ensures.marks ∙ ap₂ four_marks dp_lent (d-is found)
 
   words_given : q.sub_frames-marks.new.codewords ≡ q.frame-a.result.larc ++ four_words begun.args.e.dp (d-of begun)
-  words_given = q.sub_frames-marks.ensures.codewords ∙ ap₂ ◌++◌ (larc_lent _) (ap₂ four_words dp_lent (d_back found _))
+  words_given = q.sub_frames-marks.ensures.codewords ∙ ap₂ ◌++◌ (larc_lent _) (ap₂ four_words dp_lent (d-is found))
 
-  added_given : q.sub_frames-marks.new.dp ≡ four_added begun.args.e.dp (d-of begun)
-  added_given = q.sub_frames-marks.ensures.history ∙ ap₂ four_added dp_lent (d_back found _)
-
-  -- the history and four sub-frames are 280 samples, of which the last 120 are kept
-  four_are : length (four_added begun.args.e.dp (d-of begun)) ≡ 280
-  four_are = four_length begun.args.e.dp (d-of begun) (history begun)
-
-  added_length : length q.sub_frames-marks.new.dp ≡ 280
-  added_length = ap length added_given ∙ four_are
-
-  added_room : (rest : List ℤ) → 280 ≤ length (q.sub_frames-marks.new.dp ++ rest)
-  added_room = front_room 280 added_given four_are
-
-  last_kept : (rest : List ℤ) → take 120 (drop 160 (q.sub_frames-marks.new.dp ++ rest)) ≡ dp₄ begun.args.e.dp (d-of begun)
-  last_kept rest =
-      let y = q.sub_frames-marks.new.dp in
-      rw (drop-append-le 160 y rest (omega (arith, added_length)))
-      (take_at (drop 160 y) rest 120 (rw length-drop (omega (arith, added_length)))
-      ∙ (ap (drop 160) added_given ∙ four_last begun.args.e.dp (d-of begun) (history begun)))
+  -- the last 120 samples of the history and the four sub-frames are kept
+  last_kept : take 120 (drop 160 q.sub_frames-marks.new.dp) ≡ dp₄ begun.args.e.dp (d-of begun)
+  last_kept =
+      let dp = begun.args.e.dp in
+      let d = d-of begun in
+      let all = q.sub_frames-marks.ensures.history ∙ ap₂ four_added dp_lent (d-is found) in
+      let size : length (drop 160 (four_added dp d)) ≤ 120 = rw length-drop (omega (arith, four_length dp d (history begun))) in
+      ap (λ y. take 120 (drop 160 y)) all ∙ (take_all 120 _ size ∙ four_last dp d (history begun))
 
 pub returns : goal.returns
 unfolding coder
@@ -156,20 +127,12 @@ returns c =
     let t = found q in
     let s = begun q in
     let m = c_of s in
-    let unused = drop 280 q.remembered-dp.result in
-    let dp-last : c.last.result ≡ take 120 (drop 160 (q.sub_frames-marks.new.dp ++ unused)) = c.last.ensures in
     let (next_is, (larc-is, (how-is, d-is))) = analysed_is t in
     let (state, (how, (told, written))) = steps_are m (sop s) next_is larc-is how-is refl in record {
       state =
           rw (back {w = w16} (z1_after t), back {w = w32} (l_z2_after t), back {w = w16} (mp_after t))
-          (ap (with_history (coder_of t.frame-a.result.next)) (dp-last ∙ last_kept q unused) ∙ state);
-      ending = c.answered.ensures ∙ ap some how;
+          (ap (with_history (coder_of t.frame-a.result.next)) (c.last.ensures ∙ last_kept q) ∙ state);
+      ending = how;
       marks = marks_given q ∙ told;
       codewords = words_given q ∙ written;
     }
-
-pub slice_bounds-sub_frames-end : goal.slice_bounds-sub_frames-end
-slice_bounds-sub_frames-end c = let h = d_room (goal.at.slice_bounds-sub_frames-end c).After-frame-a in search (rules, h)
-
-pub slice_bounds-last-end : goal.slice_bounds-last-end
-slice_bounds-last-end c = let h = added_room (goal.at.slice_bounds-last-end c).After-sub_frames-marks in search (rules, h)
