@@ -55,7 +55,7 @@ word_negative n l h =
     ap (to_z w16) e ∙ (to_z-neg w16 k (omega arith) ∙ omega (zar, minus_is (pos n) (pos 65536)))
 
 -- the low bits of a number that fits are its bits
-modulo_bits : {w : Width} {z : ℤ} → SFits w z → modulo z (2 ^ bits w) ≡ of_z w z
+pub modulo_bits : {w : Width} {z : ℤ} → SFits w z → modulo z (2 ^ bits w) ≡ of_z w z
 unfolding modulo
 modulo_bits {w} {z = pos n} f = mod-eq_of_lt (half_full w f.sfits)
 modulo_bits {w} {z = negsuc n} f = ap (λ (x : ℕ). 2 ^ bits w - suc x) (mod-eq_of_lt (half_full w f.sfits))

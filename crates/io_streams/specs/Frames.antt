@@ -1,6 +1,7 @@
 -- For a loop that codes the frames of one buffer, all of one size, into another buffer, one behind the other.
 use Rattle.std.specs.Prelude.{ℕ, zero, suc, ◌+◌, ◌-◌, ◌*◌, ◌≤◌, ◌<◌, ◌≡◌, refl, length, take, drop, replicate}
-use Rattle.std.proofs.Common.{◌∙◌, mul-zero, mul-suc, add_comm, mul-le-mul_left, add-one, arith, drop_of_length-le, drop-drop}
+use Rattle.std.proofs.Common.{sym, ap, ◌∙◌, mul-zero, mul-suc, add_comm, mul-le-mul_left, add-one, arith, append_assoc, take-append-drop, length-take, length-drop, drop_of_length-le, drop-drop}
+use lib.Seq.{drop-append-le}
 use mathlib.Core.List.{List, [], ◌∷◌, ◌++◌, append-nil, flatten}
 use Rattle.math_lists.specs.Scan.{run, run_append}
 use Rattle.math_lists.specs.Cut.{cut, flatten_last}
@@ -16,6 +17,26 @@ cut_more k (suc n) xs = rw (cut_more k n (drop k xs), drop-drop (k * n) k xs, mu
 -- bytes put from the front of a buffer that is as long as they are fill it
 pub puts_all : (t xs : List ℕ) {r : ℕ} {ys : List ℕ} → Puts 0 t xs r ys → length xs ≡ length t → ys ≡ t
 puts_all t xs p h = p.text ∙ rw (drop_of_length-le xs {i = length t} (omega arith), append-nil)
+
+-- and bytes that fill a buffer are put from its front on
+pub puts_filled : {t xs ys : List ℕ} {r : ℕ} → ys ≡ t → length ys ≡ length xs → r ≡ length xs → Puts 0 t xs r ys
+puts_filled {t} {xs} {ys} e l k =
+    let n = ap length e in
+    record { place = omega arith; text = e ∙ sym (rw (drop_of_length-le xs {i = length t} (omega arith), append-nil) refl) }
+
+-- bytes put at the front of a part of a buffer, k bytes from index a on, are put where the part begins
+pub puts_part : (a k : ℕ) {t xs ys : List ℕ} {r : ℕ} → a + k ≤ length xs → r ≤ k → Puts 0 t (take k (drop a xs)) r ys
+    → Puts a t xs (a + r) (put a k xs ys)
+puts_part a k {t} {xs} h l p =
+    let d = drop a xs in
+    let m = length t in
+    let few : m ≤ length (take k d) = simp (length-take, length-drop) (omega (arith, p.place)) in
+    let behind : drop m (take k d) ++ drop k d ≡ drop m d = sym (drop-append-le m (take k d) (drop k d) few)
+    ∙ ap (drop m) (take-append-drop k d) in
+    record {
+      place = omega (arith, p.place);
+      text = rw p.text (rw (append_assoc t (drop m (take k d)) (drop k d), behind) refl);
+    }
 
 -- a step takes a state and a frame's bytes to the next state and the bytes to be written
 module _ {S : Type 0} (step : S → List ℕ → S × List ℕ) (size : ℕ) where

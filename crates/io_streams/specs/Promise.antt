@@ -1,14 +1,19 @@
 -- What is promised of reading behind bytes that are there already.
-use Rattle.std.specs.Prelude.{ℕ, ◌≤◌, ◌<◌, ◌≡◌, true, List, length, take}
-use Rattle.io_streams.specs.declared.Filled.{Filled}
+use Rattle.std.specs.Prelude.{ℕ, ◌≤◌, ◌<◌, ◌≡◌, List, length, take, Result, Ok, Err, IsErr}
+use Rattle.io_streams.specs.declared.Unread.{Unread}
+
+-- how many bytes there are, whether or not a read has failed
+abbrev pub bytes_there : Result ℕ Unread → ℕ
+bytes_there (Ok count) = count
+bytes_there (Err before) = before.count
 
 -- before: the buffer held xs, of which the first `there` bytes count; at least `least` bytes were wanted. After: it holds ys
-pub record Gathered (there least : ℕ) (xs : List ℕ) (r : Filled) (ys : List ℕ) : Type 0 where
-  pub room : r.count ≤ length ys
-  pub more : there ≤ r.count
+pub record Gathered (there least : ℕ) (xs : List ℕ) (r : Result ℕ Unread) (ys : List ℕ) : Type 0 where
+  pub room : bytes_there r ≤ length ys
+  pub more : there ≤ bytes_there r
   -- the bytes that were there are unchanged
   pub stands : take there ys ≡ take there xs
   -- a read that failed is told only where bytes are missing
-  pub failure : r.failed ≡ true → r.count < least
+  pub failure : IsErr r → bytes_there r < least
   -- where enough bytes were there, none is read
-  pub enough : least ≤ there → (r.count ≡ there) × (ys ≡ xs)
+  pub enough : least ≤ there → (r ≡ Ok there) × (ys ≡ xs)

@@ -1,58 +1,70 @@
-// Standard input, for the programs, and what is reported on standard error. No promise can say what standard input
-// gives or whether a write succeeds.
+// Standard input, for the programs, and why a program stops before its input ends. No promise can say what standard
+// input gives or whether a write succeeds.
 #![tactic(auto)]
 
-ghost use Rattle.std.specs.Prelude.{◌≡◌, false, not, ◌&&◌, ◌++◌, ◌-◌, ◌/◌, ◌≤◌, ◌<◌, min, leb, length, take, drop, slice_range};
+ghost use Rattle.std.specs.Prelude.{◌≡◌, ◌++◌, ◌-◌, ◌/◌, ◌≤◌, ◌<◌, ◌↔◌, min, length, take, drop, slice_range, IfOk, IsOk};
 ghost use Rattle.std.specs.Io.KnownBytes.{Consumes, IsAtEnd};
-ghost use Rattle.io_streams.specs.Promise.{Gathered};
+ghost use Rattle.io_streams.specs.declared.Failure.TheVariants.{Unreadable};
+ghost use Rattle.io_streams.specs.Promise.{Gathered, bytes_there};
 
 use std::io::Read;
+use std::{fmt, io};
 
-// How many bytes the buffer holds after reading; and whether a read failed. A failure is told only where there are
-// fewer bytes than were wanted.
+// A read failed. So many bytes were there before it.
 #[derive(Clone, Copy)]
-pub struct Filled {
+pub struct Unread {
     pub count: usize,
-    pub failed: bool,
 }
 
-// One read. It gives no byte at the end of the input.
-fn read<R: Read>(input: &mut R, room: &mut [u8]) -> Filled
-    ensures room { result.count ≤ length room.new }
-    ensures taken { Consumes (R.remaining input.old) (R.remaining input.new) (take result.count room.new) }
-    ensures ended { result.count ≡ 0 → result.failed ≡ false → 0 < length room.new → IsAtEnd (R.remaining input.new) }
-{
-    let got = input.read(room);
-    let failed = got.is_err();
-    Filled {
-        count: got.unwrap_or(0),
-        failed: failed,
+// Why a program stops before its input ends.
+#[derive(Clone, Copy)]
+pub enum Failure {
+    Unreadable,
+    Unwritable,
+}
+
+impl fmt::Display for Failure {
+    fn fmt<W: fmt::Write>(&self, f: &mut fmt::Formatter<W>) -> fmt::Result {
+        match self {
+            Failure::Unreadable => write!(f, "standard input cannot be read"),
+            Failure::Unwritable => write!(f, "standard output cannot be written"),
+        }
+    }
+}
+
+impl From<Unread> for Failure {
+    ghost from_gives = { λ _ r. r ≡ Unreadable };
+
+    fn from(_before: Unread) -> Failure {
+        Failure::Unreadable
     }
 }
 
 // Reads behind the bytes that are there, as much as each read gives, until there are at least `least` bytes, the input
 // ends or a read fails. A pipe gives its bytes in pieces; a piece that has come does not wait until the buffer is full.
-pub fn gather<R: Read>(input: &mut R, there: usize, least: usize, room: &mut [u8]) -> Filled
+// Answers how many bytes there are. A failure is told only where there are fewer bytes than were wanted.
+pub fn gather<R: Read>(
+    input: &mut R,
+    there: usize,
+    least: usize,
+    room: &mut [u8],
+) -> Result<usize, Unread>
     requires { (there ≤ length room.old) × (least ≤ length room.old) }
     ensures gathered { Gathered there least room.old result room.new }
-    ensures taken { Consumes (R.remaining input.old) (R.remaining input.new) (slice_range room.new there result.count) }
-    ensures ended { result.count < least → result.failed ≡ false → IsAtEnd (R.remaining input.new) }
+    ensures taken { Consumes (R.remaining input.old) (R.remaining input.new)
+        (slice_range room.new there (bytes_there result)) }
+    ensures ended { IfOk result (λ count. count < least → IsAtEnd (R.remaining input.new)) }
 {
     let mut done = there;
+    // This is no count: a read gives as many bytes as it likes.
     while done < least {
-        let more = read(input, &mut room[done..]);
-        if more.count == 0 {
-            return Filled {
-                count: done,
-                failed: more.failed,
-            };
+        match input.read(&mut room[done..]) {
+            Ok(0) => break,
+            Ok(more) => done += more,
+            Err(_) => return Err(Unread { count: done }),
         }
-        done = done + more.count;
     }
-    Filled {
-        count: done,
-        failed: false,
-    }
+    Ok(done)
 }
 
 // How many whole frames of `size` bytes there are in `count` bytes, but at most `most`.
@@ -60,8 +72,7 @@ pub fn frames(count: usize, size: usize, most: usize) -> usize
     requires { 0 < size }
     ensures { result ≡ min (count / size) most }
 {
-    let n = count / size;
-    if n < most { n } else { most }
+    (count / size).min(most)
 }
 
 // Moves the bytes from index `from` up to `count` to the front of the buffer, and answers how many they are.
@@ -71,51 +82,27 @@ pub fn keep(from: usize, count: usize, room: &mut [u8]) -> usize
     ensures moved { room.new
         ≡ take (count - from) (drop from room.old) ++ drop (count - from) room.old }
 {
-    let rest = count - from;
-    for i in 0..rest {
-        room[i] = room[from + i];
-    }
-    rest
+    room.copy_within(from..count, 0);
+    count - from
 }
 
-// Whether reading succeeded. A failure is reported on standard error.
-pub fn readable(rt: &impl Eprint, got: Filled) -> bool
-    ensures { result ≡ not got.failed }
+// Whether a write succeeded, from what it answered.
+pub fn written(outcome: io::Result<()>) -> Result<(), Failure>
+    ensures { IsOk result ↔ IsOk outcome }
 {
-    if got.failed {
-        let _ = eprintln!(rt; "standard input cannot be read");
-    }
-    !got.failed
+    outcome.map_err(|_| Failure::Unwritable)
 }
 
-// Reports on standard error how many bytes there are, where they are too few for a frame.
-fn say_rest(rt: &impl Eprint, count: usize, size: usize) {
-    if 0 < count {
-        if count < size {
-            let _ = eprintln!(rt; "{count} bytes are left over, less than a frame: not coded");
-        }
+// Reports on standard error how many bytes are left over, where there are some.
+pub fn say_rest(rt: &impl Eprint, rest: usize) {
+    if 0 < rest {
+        let _ = eprintln!(rt; "{rest} bytes are left over, less than a frame: not coded");
     }
 }
 
-// Whether there is at least one frame of `size` bytes. A failed read, and bytes that are too few, are reported on
-// standard error.
-pub fn whole(rt: &impl Eprint, got: Filled, size: usize) -> bool
-    ensures { result ≡ (not got.failed && leb size got.count) }
-{
-    if readable(rt, got) {
-        say_rest(rt, got.count, size);
-        return size <= got.count;
+// Reports on standard error why a program stops, where it stops before its input ends.
+pub fn report(rt: &impl Eprint, outcome: Result<(), Failure>) {
+    if let Err(failure) = outcome {
+        let _ = eprintln!(rt; "{failure}");
     }
-    false
-}
-
-// Whether a write succeeded: `out`, as it is passed in. A failure is reported on standard error.
-pub fn written(rt: &impl Eprint, out: bool) -> bool
-    ensures { result ≡ out }
-{
-    if out {
-        return true;
-    }
-    let _ = eprintln!(rt; "standard output cannot be written");
-    false
 }

@@ -13,10 +13,10 @@ use Rattle.standard.specs.Listing.{most_frames, frame_lines}
 use Rattle.law_refusals.specs.Calls.{encode_exactly, encode_done}
 use Rattle.law_lengths.specs.Frames.{coded_frame_sizes}
 use Rattle.encoder.specs.declared.Encoder.{Encoder}
-use Rattle.encoder.specs.declared.Encoded.{Encoded}
-use Rattle.encoder.specs.Promise.{coder, ending, marks, Encodes, same_state}
+use Rattle.encoder.specs.Promise as encoder
+use Rattle.encoder.specs.Promise.{coder, Answer, number, ending, marks, Encodes, same_state}
 use Rattle.encoder.specs.Calls.{number_is}
-use Rattle.list_text.specs.Written.{Puts, puts_none}
+use Rattle.arrayvec.specs.ArrayVec.{ArrayVec}
 use Rattle.list_frames.specs.declared.Lister.{Lister}
 use Rattle.list_frames.specs.declared.Listed.{Listed}
 use Rattle.list_lines.specs.Lines.{frame_text, lines_are}
@@ -35,10 +35,10 @@ listed s bytes =
 unfoldable pub state : Lister → State
 state l = (l.frames, coder l.encoder)
 
--- the lister, a frame's bytes, the buffer that was passed, the answer, and what is left in the buffer
-pub record Lists (l : Lister) (bytes lent : List ℕ) (a : Listed) (left : List ℕ) : Type 0 where
+-- the lister, a frame's bytes, and the answer
+pub record Lists (l : Lister) (bytes : List ℕ) (a : Listed) : Type 0 where
   pub next : state a.state ≡ (listed (state l) bytes).0
-  pub lines : Puts 0 (listed (state l) bytes).1 lent a.length left
+  pub lines : a.lines.items ≡ (listed (state l) bytes).1
 
 -- ---- where nothing is listed
 
@@ -58,50 +58,46 @@ pub listed_next : (s : State) (bytes : List ℕ) → s.0 < most_frames → sound
 unfolding listed
 listed_next s bytes h e = rw (lt-ltb s.0 most_frames h, e)
 
-module _ (l : Lister) (bytes lent : List ℕ) where
-  -- an answer that lists nothing
-  unfoldable pub nothing : Listed
-  nothing = record { state = l; length = 0 }
-
-  -- keeps the promise beyond the limit
-  pub limit_keeps : most_frames ≤ l.frames → Lists l bytes lent nothing lent
-  unfolding state nothing
-  limit_keeps h =
+module _ (l : Lister) (bytes : List ℕ) where
+  -- an answer that lists nothing keeps the promise beyond the limit
+  pub limit_keeps : most_frames ≤ l.frames → (a : Listed) → a.state ≡ l → a.lines.items ≡ [] → Lists l bytes a
+  unfolding state
+  limit_keeps h a same none =
       let e = listed_limit (state l) bytes h in
-      record { next = rw e; lines = rw e (puts_none 0 lent) }
+      record { next = rw (e, same); lines = rw (e, none) refl }
 
   -- and where encode refuses the frame
-  module _ (w left : List ℤ) (a : Encoded) (p : Encodes l.encoder (file_words bytes) w a left)
+  module _ (w left : List ℤ) (a : Answer) (p : Encodes l.encoder (file_words bytes) w a left)
       (hs : length (file_words bytes) ≡ 160) (hw : length w ≡ 76) where
-    refused_unsound : (b : Bool) → sound_coder (coder l.encoder) ≡ b → ¬ (a.number ≡ 0) → b ≡ false
+    refused_unsound : (b : Bool) → sound_coder (coder l.encoder) ≡ b → ¬ (number a ≡ 0) → b ≡ false
     refused_unsound false e n = refl
     refused_unsound true e n =
         let allowed = (encode_exactly (coder l.encoder) (file_words bytes) w).allows hs hw e in
         absurd (n (number_is l.encoder (file_words bytes) w a left p ∙ allowed))
 
-    pub refused_keeps : ¬ (a.number ≡ 0) → Lists l bytes lent nothing lent
-    unfolding state nothing
-    refused_keeps n =
+    pub refused_keeps : ¬ (number a ≡ 0) → (r : Listed) → r.state ≡ l → r.lines.items ≡ [] → Lists l bytes r
+    unfolding state
+    refused_keeps n r same none =
         let e = listed_unsound (state l) bytes (refused_unsound (sound_coder (coder l.encoder)) refl n) in
-        record { next = rw e; lines = rw e (puts_none 0 lent) }
+        record { next = rw (e, same); lines = rw (e, none) refl }
 
     -- where encode does not refuse, the lines of its answer keep the promise
-    pub done_keeps : l.frames < most_frames → a.number ≡ 0 → (r : ℕ) (text : List ℕ)
-        → Puts 0 (frame_text (l.frames + 1) (ending a.ending) (marks a.marks) left) lent r text
-        → Lists l bytes lent (record { state = record { frames = l.frames + 1; encoder = a.state }; length = r }) text
+    pub done_keeps : l.frames < most_frames → number a ≡ 0 → (t : ArrayVec ℕ)
+        → t.items ≡ frame_text (l.frames + 1) (ending a) (marks a) left
+        → Lists l bytes (record { state = record { frames = l.frames + 1; encoder = encoder.state a }; lines = t })
     unfolding state
-    done_keeps h n r text q =
+    done_keeps h n text q =
         let c = coder l.encoder in
         let refusal = sym (number_is l.encoder (file_words bytes) w a left p) ∙ n in
         let sound = ((encode_exactly c (file_words bytes) w).allowed refusal).2 in
         let d = encode_done c (file_words bytes) w refusal in
         let t = coded c (file_words bytes) in
         let e = listed_next (state l) bytes h sound in
-        let after : coder a.state ≡ t.0 = rw d at p.state in
-        let how : ending a.ending ≡ some t.1.ending = rw d at p.ending in
-        let told : marks a.marks ≡ map (λ x. some (mark x)) t.1.subframes = rw d at p.marks in
+        let after : coder (encoder.state a) ≡ t.0 = rw d at p.state in
+        let how : ending a ≡ some t.1.ending = rw d at p.ending in
+        let told : marks a ≡ map (λ x. some (mark x)) t.1.subframes = rw d at p.marks in
         let codes : left ≡ words (frame t.1) = rw d at p.codewords in
-        let is : frame_text (l.frames + 1) (ending a.ending) (marks a.marks) left ≡ frame_lines (suc l.frames) t.1 =
+        let is : frame_text (l.frames + 1) (ending a) (marks a) left ≡ frame_lines (suc l.frames) t.1 =
         rw (add-one, how, told, codes) (lines_are (suc l.frames) t.1 (coded_frame_sizes c (file_words bytes))) in
         record { next = rw (add-one, e, after); lines = rw (e, ← is) q }
 
@@ -118,13 +114,12 @@ one_start k l p =
     let same : lister k.frames k.encoder ≡ lister l.frames l.encoder = ap₂ lister (ap (λ (s : State). s.0) p) e in
     same
 
--- any two outcomes that keep the promise are equal
-abbrev answer : Lister → ℕ → Listed
-answer l n = record { state = l; length = n }
+-- any two answers that keep the promise are equal
+abbrev answer : Lister → List ℕ → Listed
+answer l t = record { state = l; lines = record { items = t } }
 
-pub one_listing : (l : Lister) (bytes lent : List ℕ) (a b : Listed) (x y : List ℕ)
-    → Lists l bytes lent a x → Lists l bytes lent b y → (a ≡ b) × (x ≡ y)
-one_listing l bytes lent a b x y p q =
+pub one_listing : (l : Lister) (bytes : List ℕ) (a b : Listed) → Lists l bytes a → Lists l bytes b → a ≡ b
+one_listing l bytes a b p q =
     let after = one_start a.state b.state (p.next ∙ sym q.next) in
-    let same : answer a.state a.length ≡ answer b.state b.length = ap₂ answer after (p.lines.place ∙ sym q.lines.place) in
-    (same, p.lines.text ∙ sym q.lines.text)
+    let same : answer a.state a.lines.items ≡ answer b.state b.lines.items = ap₂ answer after (p.lines ∙ sym q.lines) in
+    same

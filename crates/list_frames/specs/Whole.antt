@@ -1,6 +1,6 @@
 -- House rules, 'Listing': the whole listing, by the calls that make it: the header, the lines of each whole frame from home on,
 -- the E line.
-use Rattle.std.specs.Prelude.{ℕ, suc, ◌+◌, ◌*◌, ◌-◌, ◌/◌, ◌≤◌, ◌<◌, min, ◌≡◌, refl, Bool, true, false, ltb, pos, negsuc, length, take, replicate}
+use Rattle.std.specs.Prelude.{ℕ, suc, ◌+◌, ◌*◌, ◌-◌, ◌/◌, ◌≤◌, ◌<◌, min, ◌≡◌, refl, Bool, true, false, ltb, pos, negsuc, length, replicate}
 use Rattle.std.proofs.Common.{ap, ◌∙◌, ⊎_elim, arith, ltb-true, ltb-false}
 use mathlib.Core.List.{List, [], ◌∷◌, ◌++◌, map, flatten}
 use Rattle.std.proofs.lemmas.List.{length-replicate}
@@ -16,7 +16,6 @@ use Rattle.standard.specs.House.{home_coder, sound_coder}
 use Rattle.standard.specs.Listing.{frame_bytes, most_frames, header, frame_lines, numbered, E_line, frames, listing}
 use Rattle.law_arithmetic.specs.Within.{word, word_yes}
 use Rattle.law_soundness.specs.States.{home_coder_sound, coded_sound}
-use Rattle.list_text.specs.Written.{Puts, puts_front}
 use Rattle.list_borders.specs.Borders.{E_beyond}
 use Rattle.list_frames.specs.declared.Lister.{Lister}
 use Rattle.list_frames.specs.declared.Listed.{Listed}
@@ -55,40 +54,38 @@ listed_all n c (p ∷ ps) e h =
 
 -- ---- calls as they were made
 
--- a call of listed: the frame's bytes, the buffer that was passed, the answer, and what is left in the buffer
+-- a call of listed: the frame's bytes and the answer
 pub record Call : Type 0 where
   pub bytes : List ℕ
-  pub lent : List ℕ
   pub answer : Listed
-  pub left : List ℕ
 
 -- its text
 abbrev pub lines : Call → List ℕ
-lines c = take c.answer.length c.left
+lines c = c.answer.lines.items
 
 -- this much is true of calls from the lister l on: each keeps its promise, and the next one goes on from its answer
 unfoldable pub Made : Lister → List Call → Type 0
 Made l [] = Unit {0}
-Made l (c ∷ calls) = Lists l c.bytes c.lent c.answer c.left × Made c.answer.state calls
+Made l (c ∷ calls) = Lists l c.bytes c.answer × Made c.answer.state calls
 
 -- the lister after them
 unfoldable pub after : Lister → List Call → Lister
 after l [] = l
 after l (c ∷ calls) = after c.answer.state calls
 
--- they leave what the definition gives of their bytes
+-- they give what the definition gives of their bytes
 pub made_run : (l : Lister) (calls : List Call) → Made l calls
     → (state (after l calls), map lines calls) ≡ run listed (state l) (map (λ c. c.bytes) calls)
 unfolding Made after run
 made_run l [] m = refl
-made_run l (c ∷ calls) (p, m) = rw (← p.next, ← made_run c.answer.state calls m, puts_front p.lines) refl
+made_run l (c ∷ calls) (p, m) = rw (← p.next, ← made_run c.answer.state calls m, p.lines) refl
 
 -- what ended is told of the bytes that follow the frames: how many they are. Past the limit it may be any number above 0
 pub record Rest (bytes : List ℕ) (rest : ℕ) : Type 0 where
   pub within : length bytes ≤ 320000000 → length (parts bytes) * 320 + rest ≡ length bytes
   pub beyond : 320000000 < length bytes → 0 < rest
 
--- it then puts the input's E line
+-- it then gives the input's E line
 pub ended_is : (bytes : List ℕ) (rest : ℕ) → Rest bytes rest → E_line (length (parts bytes) * 320 + rest) ≡ E_line (length bytes)
 unfolding parts
 ended_is bytes rest p =
@@ -98,13 +95,12 @@ ended_is bytes rest p =
     (λ h. E_beyond (length (parts bytes) * 320 + rest) (length bytes) (omega (arith, n, p.beyond h)) h)
     (le_or_lt (length bytes) 320000000)
 
--- the whole listing: what header leaves, what the calls of listed leave, from start on and for the parts of the input in their order,
--- and what ended leaves
+-- the whole listing: what header gives, what the calls of listed give, from start on and for the parts of the input in their order,
+-- and what ended gives
 pub listing_is : (bytes : List ℕ) (l : Lister) (calls : List Call) (rest : ℕ)
     → state l ≡ (0, home_coder) → Made l calls → map (λ c. c.bytes) calls ≡ parts bytes → Rest bytes rest
-    → {lent left lent' left' : List ℕ} {r r' : ℕ}
-    → Puts 0 header lent r left → Puts 0 (E_line ((after l calls).frames * 320 + rest)) lent' r' left'
-    → take r left ++ (flatten (map lines calls) ++ take r' left') ≡ listing bytes
+    → {top end : List ℕ} → top ≡ header → end ≡ E_line ((after l calls).frames * 320 + rest)
+    → top ++ (flatten (map lines calls) ++ end) ≡ listing bytes
 unfolding listing frames parts state
 listing_is bytes l calls rest home made all e first last =
     let ran : (state (after l calls), map lines calls) ≡ run listed (0, home_coder) (parts bytes)
@@ -112,4 +108,4 @@ listing_is bytes l calls rest home made all e first last =
     let few : length (parts bytes) ≤ most_frames = rw (cut_count, length-replicate) (omega arith) in
     let (text, count) = listed_all 0 home_coder (parts bytes) home_coder_sound (omega (arith, few)) in
     let counted : (after l calls).frames ≡ length (parts bytes) = ap (λ x. x.0.0) ran ∙ (count ∙ omega arith) in
-    rw (puts_front first, puts_front last, counted, ended_is bytes rest e) (rw (ap (λ x. x.1) ran, text))
+    rw (first, last, counted, ended_is bytes rest e) (rw (ap (λ x. x.1) ran, text))

@@ -2,14 +2,14 @@
 // specs/Promise.antt.
 #![tactic(auto)]
 
-ghost use Rattle.std.specs.Prelude.{◌≡◌, ◌+◌, ◌*◌, ◌≤◌};
+ghost use Rattle.std.specs.Prelude.{◌≡◌, [], ◌+◌, ◌*◌};
 ghost use Rattle.standard.specs.Files.{file_words};
 ghost use Rattle.standard.specs.House.{home_coder};
 ghost use Rattle.standard.specs.Listing.{E_line};
-ghost use Rattle.list_text.specs.Written.{Puts};
 ghost use Rattle.list_frames.specs.Promise.{state, Lists};
 
 use encoder::Encoder;
+use list_text::Text;
 
 // What is kept from frame to frame: how many are listed, and the encoder.
 #[derive(Clone, Copy)]
@@ -18,11 +18,11 @@ pub struct Lister {
     pub encoder: Encoder,
 }
 
-// The lister after a frame, and the length of the text of the frame's lines.
-#[derive(Clone, Copy)]
+// The lister after a frame, and the frame's lines.
+#[derive(Drop)]
 pub struct Listed {
     pub state: Lister,
-    pub length: usize,
+    pub lines: Text,
 }
 
 // The 160 samples of a frame's bytes.
@@ -45,54 +45,50 @@ impl Lister {
         }
     }
 
+    // No frame listed.
+    fn nothing(self) -> Listed
+        ensures state { result.state ≡ self }
+        ensures lines { result.lines.items ≡ [] }
+    {
+        Listed {
+            state: self,
+            lines: Text::new(),
+        }
+    }
+
     // The five lines of the next frame, whose 320 bytes are passed. Past the limit, or where encode refuses, nothing is
     // listed.
-    pub fn listed(self, bytes: &[u8; 320], out: &mut [u8; 1024]) -> Listed
-        ensures lists { Lists self bytes.now out.old result out.new }
-        ensures room { result.length ≤ 1024 }
+    pub fn listed(self, bytes: &[u8; 320]) -> Listed
+        ensures { Lists self bytes.now result }
     {
         if 1000000 <= self.frames {
-            return Listed {
-                state: self,
-                length: 0,
-            };
+            return self.nothing();
         }
-        let e = self.encoder;
-        let sop = samples(bytes);
         let mut codewords = [0; 76];
-        let coded = e.encode(&sop, &mut codewords);
-        if coded.number != 0 {
-            return Listed {
-                state: self,
-                length: 0,
-            };
-        }
-        let next = coded.state;
-        let ending = coded.ending;
-        let marks = coded.marks;
-        let frame = self.frames + 1;
-        let length = list_lines::frame_lines(frame, ending, marks, &codewords, out);
+        let Ok(coded) = self.encoder.encode(&samples(bytes), &mut codewords) else {
+            return self.nothing();
+        };
+        let [first, second, third, fourth] = coded.marks;
+        let frames = self.frames + 1;
         Listed {
             state: Lister {
-                frames: frame,
-                encoder: next,
+                frames,
+                encoder: coded.state,
             },
-            length: length,
+            lines: list_lines::frame_lines(
+                frames,
+                Some(coded.ending),
+                [Some(first), Some(second), Some(third), Some(fourth)],
+                &codewords,
+            ),
         }
     }
 
     // The E line, where `rest` bytes follow the frames that are listed. Past the limit any number above 0 gives the
     // same line.
-    pub fn ended(self, rest: u32, out: &mut [u8; 1024]) -> usize
-        ensures puts { Puts 0 (E_line (self.frames * 320 + rest)) out.old result out.new }
-        ensures room { result ≤ 1024 }
+    pub fn ended(self, rest: u32) -> Text
+        ensures { result.items ≡ E_line (self.frames * 320 + rest) }
     {
-        if 1000000 < self.frames {
-            return list_borders::e_line(320000001, out);
-        }
-        if 320000000 < rest {
-            return list_borders::e_line(320000001, out);
-        }
-        list_borders::e_line(self.frames * 320 + rest, out)
+        list_borders::e_line(self.frames.saturating_mul(320).saturating_add(rest))
     }
 }

@@ -3,104 +3,101 @@
 
 ghost use Rattle.std.specs.Prelude.{◌≡◌, [], ◌∷◌, ◌++◌, map, ◌+◌, ◌*◌, ◌≤◌, length};
 ghost use Rattle.standard.specs.Listing.{most_frames, decimal, word};
-ghost use Rattle.encoder.specs.Promise.{ending, mark};
-ghost use Rattle.encoder.specs.Promise as told;
-ghost use Rattle.list_text.specs.Written.{Puts};
+ghost use Rattle.list_lines.specs.Told.{told_ending, told_mark};
 ghost use Rattle.list_text.specs.Fields.{tabbed};
 ghost use Rattle.list_lines.specs.Lines.{ending_field, mark_field, F_text, S_text, frame_text};
 
-use encoder::{Ending, Mark, Marks};
+use encoder::{Ending, Mark};
+use list_text::{Text, decimal, field, fields, text};
 
-// The field that says how the recursion ended, after its tab.
-fn ending_field(e: Ending, at: usize, out: &mut [u8]) -> usize
-    requires { at + 12 ≤ length out.old }
-    ensures puts { Puts at (ending_field (ending e)) out.old result out.new }
-    ensures room { result ≤ at + 12 }
+// The field that says how the recursion ended, after its tab; nothing, where there is no ending.
+fn ending_field(e: Option<Ending>, out: &mut Text)
+    requires { length out.old.items + 12 ≤ 1024 }
+    ensures text { out.new.items ≡ out.old.items ++ ending_field (told_ending e) }
+    ensures room { length out.new.items ≤ length out.old.items + 12 }
 {
+    let Some(e) = e else {
+        return;
+    };
     match e {
-        Ending::Absent => at,
-        Ending::Silent => list_text::text(b"\tsilent", at, out),
+        Ending::Silent => text(b"\tsilent", out),
         Ending::Stopped(n) => {
-            let after = list_text::text(b"\tstop", at, out);
-            list_text::decimal(n as u32, after, out)
+            text(b"\tstop", out);
+            decimal(u32::from(n), out);
         }
-        Ending::Complete => list_text::text(b"\tcomplete", at, out),
+        Ending::Complete => text(b"\tcomplete", out),
     }
 }
 
-// The field of a lag's mark, after its tab.
-fn mark_field(m: Mark, at: usize, out: &mut [u8]) -> usize
-    requires { at + 6 ≤ length out.old }
-    ensures puts { Puts at (mark_field (mark m)) out.old result out.new }
-    ensures room { result ≤ at + 6 }
+// The field of a lag's mark, after its tab; nothing, where there is none.
+fn mark_field(m: Option<Mark>, out: &mut Text)
+    requires { length out.old.items + 6 ≤ 1024 }
+    ensures text { out.new.items ≡ out.old.items ++ mark_field (told_mark m) }
+    ensures room { length out.new.items ≤ length out.old.items + 6 }
 {
+    let Some(m) = m else {
+        return;
+    };
     match m {
-        Mark::Absent => at,
-        Mark::Rule => list_text::text(b"\trule", at, out),
-        Mark::Found => list_text::text(b"\tfound", at, out),
+        Mark::Rule => text(b"\trule", out),
+        Mark::Found => text(b"\tfound", out),
     }
 }
 
 // A line's first two fields: its letter and the frame's number.
-fn led(letter: &[u8], frame: u32, at: usize, out: &mut [u8]) -> usize
-    requires { ((frame ≤ most_frames) × (length letter.now ≡ 1)) × (at + 9 ≤ length out.old) }
-    ensures puts { Puts at (letter.now ++ 9 ∷ decimal frame) out.old result out.new }
-    ensures room { result ≤ at + 9 }
+fn led(letter: u8, frame: u32, out: &mut Text)
+    requires { (frame ≤ most_frames) × (length out.old.items + 9 ≤ 1024) }
+    ensures text { out.new.items ≡ out.old.items ++ (letter ∷ 9 ∷ decimal frame) }
+    ensures room { length out.new.items ≤ length out.old.items + 9 }
 {
-    let after = list_text::text(letter, at, out);
-    list_text::field(frame, after, out)
+    out.push(letter);
+    field(frame, out);
 }
 
 // The codewords that end a line, each after a tab, and the line feed.
-fn closed(words: &[i16], at: usize, out: &mut [u8]) -> usize
-    requires { at + 8 * length words.now + 1 ≤ length out.old }
-    ensures puts { Puts at (tabbed (map word words.now) ++ (10 ∷ []))
-        out.old result out.new }
-    ensures room { result ≤ at + 8 * length words.now + 1 }
+fn closed(words: &[i16], out: &mut Text)
+    requires { length out.old.items + 8 * length words.now + 1 ≤ 1024 }
+    ensures text { out.new.items ≡ out.old.items ++ (tabbed (map word words.now) ++ (10 ∷ [])) }
+    ensures room { length out.new.items ≤ length out.old.items + 8 * length words.now + 1 }
 {
-    let after = list_text::fields(words, at, out);
-    list_text::text(b"\n", after, out)
+    fields(words, out);
+    out.push(b'\n');
 }
 
 // The F line: frame, ending, LARc 1 to 8.
-fn f_line(frame: u32, e: Ending, larc: &[i16], at: usize, out: &mut [u8]) -> usize
-    requires { ((frame ≤ most_frames) × (length larc.now ≡ 8)) × (at + 86 ≤ length out.old) }
-    ensures puts { Puts at (F_text frame (ending e) larc.now)
-        out.old result out.new }
-    ensures room { result ≤ at + 86 }
+fn f_line(frame: u32, e: Option<Ending>, larc: &[i16], out: &mut Text)
+    requires { (frame ≤ most_frames) × (length larc.now ≡ 8) × (length out.old.items + 86 ≤ 1024) }
+    ensures text { out.new.items ≡ out.old.items ++ F_text frame (told_ending e) larc.now }
+    ensures room { length out.new.items ≤ length out.old.items + 86 }
 {
-    let number = led(b"F", frame, at, out);
-    let how = ending_field(e, number, out);
-    closed(larc, how, out)
+    led(b'F', frame, out);
+    ending_field(e, out);
+    closed(larc, out);
 }
 
 // The S line: frame, sub-frame, mark, then its 17 codewords.
-fn s_line(frame: u32, n: u32, m: Mark, words: &[i16], at: usize, out: &mut [u8]) -> usize
-    requires { ((frame ≤ most_frames) × ((n ≤ 4) × (length words.now ≡ 17))) × (at + 160 ≤ length out.old) }
-    ensures puts { Puts at (S_text frame n (mark m) words.now)
-        out.old result out.new }
-    ensures room { result ≤ at + 160 }
+fn s_line(frame: u32, n: u32, m: Option<Mark>, words: &[i16], out: &mut Text)
+    requires { (frame ≤ most_frames) × (n ≤ 4) × (length words.now ≡ 17) × (length out.old.items + 160 ≤ 1024) }
+    ensures text { out.new.items ≡ out.old.items ++ S_text frame n (told_mark m) words.now }
+    ensures room { length out.new.items ≤ length out.old.items + 160 }
 {
-    let number = led(b"S", frame, at, out);
-    let sub = list_text::field(n, number, out);
-    let how = mark_field(m, sub, out);
-    closed(words, how, out)
+    led(b'S', frame, out);
+    field(n, out);
+    mark_field(m, out);
+    closed(words, out);
 }
 
-// The five lines of a frame.
-pub fn frame_lines(frame: u32, e: Ending, marks: Marks, c: &[i16], out: &mut [u8]) -> usize
-    requires { (frame ≤ most_frames) × ((length c.now ≡ 76) × (length out.old ≡ 1024)) }
-    ensures puts { Puts 0 (frame_text frame (ending e) (told.marks marks) c.now)
-        out.old result out.new }
-    ensures room { result ≤ 1024 }
+// The five lines of a frame: five calls and no loop, so that each range of the codewords stands here.
+pub fn frame_lines(frame: u32, e: Option<Ending>, marks: [Option<Mark>; 4], c: &[i16; 76]) -> Text
+    requires { frame ≤ most_frames }
+    ensures { result.items ≡ frame_text frame (told_ending e) (map told_mark marks) c.now }
 {
-    let first = marks.first;
-    let second = marks.second;
-    let third = marks.third;
-    let fourth = marks.fourth;
-    let f = f_line(frame, e, &c[0..8], 0, out);
-    let s1 = s_line(frame, 1, first, &c[8..25], f, out);
-    let s2 = s_line(frame, 2, second, &c[25..42], s1, out);
-    let s3 = s_line(frame, 3, third, &c[42..59], s2, out);
-    s_line(frame, 4, fourth, &c[59..76], s3, out)
+    let [first, second, third, fourth] = marks;
+    let mut lines = Text::new();
+    f_line(frame, e, &c[..8], &mut lines);
+    s_line(frame, 1, first, &c[8..25], &mut lines);
+    s_line(frame, 2, second, &c[25..42], &mut lines);
+    s_line(frame, 3, third, &c[42..59], &mut lines);
+    s_line(frame, 4, fourth, &c[59..76], &mut lines);
+    lines
 }

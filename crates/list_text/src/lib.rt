@@ -1,97 +1,53 @@
-// Text in a buffer that is passed: each function puts its text from index `at` on and answers the index after it.
+// Text of the listing, put behind what a vector of bytes holds already. Its room is fixed, and each function asks for
+// the room that it needs.
 #![tactic(auto)]
 
-ghost use Rattle.std.specs.Prelude.{◌≡◌, ◌∷◌, map, ◌+◌, ◌*◌, ◌≤◌, ◌<◌, nat_abs, length};
+ghost use Rattle.std.specs.Prelude.{◌≡◌, ◌∷◌, ◌++◌, map, ◌+◌, ◌*◌, ◌≤◌, ◌<◌, length};
 ghost use Rattle.standard.specs.Listing as standard;
-ghost use Rattle.list_text.specs.Written.{Puts};
-ghost use Rattle.list_text.specs.Fields.{digit_count, tabbed};
+ghost use Rattle.list_text.specs.Fields.{tabbed};
 
-// Copies t into out, which is as long.
-fn copied(t: &[u8], out: &mut [u8])
-    requires { length t.now ≡ length out.old }
-    ensures { out.new ≡ t.now }
-{
-    for i in 0..t.len() {
-        out[i] = t[i];
-    }
-}
+use arrayvec::ArrayVec;
+use itoa::Buffer;
+
+// A line of the listing, or the lines of a frame.
+pub type Text = ArrayVec<u8, 1024>;
 
 // Bytes as they are.
-pub fn text(t: &[u8], at: usize, out: &mut [u8]) -> usize
-    requires { at + length t.now ≤ length out.old }
-    ensures puts { Puts at t.now out.old result out.new }
+pub fn text<const N: usize>(t: &[u8], out: &mut ArrayVec<u8, N>)
+    requires { length out.old.items + length t.now ≤ N }
+    ensures text { out.new.items ≡ out.old.items ++ t.now }
+    ensures room { length out.new.items ≡ length out.old.items + length t.now }
 {
-    let end = at + t.len();
-    copied(t, &mut out[at..end]);
-    end
-}
-
-// How many digits a number needs.
-fn width(n: u32) -> usize
-    requires { n < 10000000 }
-    ensures { result ≡ digit_count n }
-{
-    let mut k: usize = 1;
-    let mut power: u32 = 10;
-    while power <= n {
-        power = power * 10;
-        k = k + 1;
-    }
-    k
-}
-
-// The last digits of a number, as many as out holds, stored from the right.
-fn digits(n: u32, out: &mut [u8])
-    ensures { out.new ≡ standard.digits (length out.old) n }
-{
-    let mut rest = n;
-    let mut i = out.len();
-    while 0 < i {
-        i = i - 1;
-        out[i] = 48 + (rest % 10) as u8;
-        rest = rest / 10;
-    }
+    // There is room, so nothing is left out.
+    let _fits = out.try_extend_from_slice(t);
 }
 
 // A number of at most seven digits.
-pub fn decimal(n: u32, at: usize, out: &mut [u8]) -> usize
-    requires { (n < 10000000) × (at + 7 ≤ length out.old) }
-    ensures puts { Puts at (standard.decimal n) out.old result out.new }
-    ensures room { result ≤ at + 7 }
+pub fn decimal<const N: usize>(n: u32, out: &mut ArrayVec<u8, N>)
+    requires { (n < 10000000) × (length out.old.items + 7 ≤ N) }
+    ensures text { out.new.items ≡ out.old.items ++ standard.decimal n }
+    ensures room { length out.new.items ≤ length out.old.items + 7 }
 {
-    let end = at + width(n);
-    digits(n, &mut out[at..end]);
-    end
+    text(Buffer::new().format(n).as_bytes(), out);
 }
 
 // A tab and a number.
-pub fn field(n: u32, at: usize, out: &mut [u8]) -> usize
-    requires { (n < 10000000) × (at + 8 ≤ length out.old) }
-    ensures puts { Puts at (9 ∷ standard.decimal n) out.old result out.new }
-    ensures room { result ≤ at + 8 }
+pub fn field<const N: usize>(n: u32, out: &mut ArrayVec<u8, N>)
+    requires { (n < 10000000) × (length out.old.items + 8 ≤ N) }
+    ensures text { out.new.items ≡ out.old.items ++ 9 ∷ standard.decimal n }
+    ensures room { length out.new.items ≤ length out.old.items + 8 }
 {
-    let after = text(b"\t", at, out);
-    decimal(n, after, out)
-}
-
-// The absolute value of a word. That of -32768 is no word, so it is computed on 32 bits.
-fn size(w: i16) -> u32
-    ensures { result ≡ nat_abs w }
-{
-    let n = w as i32;
-    if n < 0 { (0 - n) as u32 } else { n as u32 }
+    out.push(b'\t');
+    decimal(n, out);
 }
 
 // A field for each word: a tab and its absolute value.
-pub fn fields(words: &[i16], at: usize, out: &mut [u8]) -> usize
-    requires { at + 8 * length words.now ≤ length out.old }
-    ensures puts { Puts at (tabbed (map standard.word words.now))
-        out.old result out.new }
-    ensures room { result ≤ at + 8 * length words.now }
+pub fn fields<const N: usize>(words: &[i16], out: &mut ArrayVec<u8, N>)
+    requires { length out.old.items + 8 * length words.now ≤ N }
+    ensures text { out.new.items ≡ out.old.items ++ tabbed (map standard.word words.now) }
+    ensures room { length out.new.items ≤ length out.old.items + 8 * length words.now }
 {
-    let mut end = at;
-    for i in 0..words.len() {
-        end = field(size(words[i]), end, out);
+    for &w in words {
+        field(u32::from(w.unsigned_abs()), out);
     }
-    end
 }

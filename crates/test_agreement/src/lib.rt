@@ -15,27 +15,14 @@ ghost use Rattle.test_agreement.specs.Stray.{stray};
 pub fn same(a: &[i16], b: &[i16]) -> bool
     ensures { (result ≡ true) ↔ (a.now ≡ b.now) }
 {
-    if a.len() != b.len() {
-        return false;
-    }
-    for i in 0..a.len() {
-        if a[i] != b[i] {
-            return false;
-        }
-    }
-    true
+    a == b
 }
 
 // Whether the four lags are from 40 to 120.
 pub fn lags(codewords: &[i16; 76]) -> bool
     ensures { result ≡ every (λ p. is_lag (codewords.now at p)) places }
 {
-    for n in 0..4usize {
-        if !long_filter::is_lag(codewords[8 + 17 * n]) {
-            return false;
-        }
-    }
-    true
+    (0..4usize).all(|n| long_filter::is_lag(codewords[8 + 17 * n]))
 }
 
 // A codeword with k in the bits above its field.
@@ -46,21 +33,12 @@ fn beside(k: i16, width: u16, c: i16) -> i16
     c + (k << width)
 }
 
-// The same for each of 76 codewords.
-fn each_beside(k: i16, codewords: &mut [i16])
-    requires { (length codewords.old ≡ 76)
-        × ((fits codewords.old ≡ true) × (within (neg 256) (pos 255) k ≡ true)) }
-    ensures { codewords.new ≡ stray k codewords.old }
-{
-    for i in 0..76usize {
-        codewords[i] = beside(k, frame_codewords::field_width(i), codewords[i]);
-    }
-}
-
 // Sets bits beside the valid ones: to each codeword, k times 2 to the power of its field's width is added.
 pub fn strayed(k: i16, codewords: &mut [i16; 76])
     requires { (fits codewords.old ≡ true) × (within (neg 256) (pos 255) k ≡ true) }
     ensures { codewords.new ≡ stray k codewords.old }
 {
-    each_beside(k, codewords);
+    for (i, c) in codewords.iter_mut().enumerate() {
+        *c = beside(k, frame_codewords::field_width(i), *c);
+    }
 }

@@ -1,7 +1,5 @@
 -- Turn i stores word i. The invariant says that the first i words are those of the file, and the rest is as it was.
-use Prim.Native.Nat.{◌≤◌}
-use mathlib.Core.Path.{◌≡◌}
-use lib.ListN.{length}
+use Rattle.std.proofs.Common.{◌≡◌, ◌≤◌, length}
 use Rattle.math_lists.specs.Fill.{filled}
 use Rattle.standard.specs.Files.{file_words}
 use Rattle.io_files.proofs.from_bytes.Given as goal

@@ -1,7 +1,5 @@
 -- Turn i stores the two bytes of word i. The invariant says that the first 2 * i bytes are those of the file.
-use Prim.Native.Nat.{◌*◌, ◌≤◌}
-use mathlib.Core.Path.{◌≡◌}
-use lib.ListN.{length}
+use Rattle.std.proofs.Common.{◌≡◌, ◌*◌, ◌≤◌, length}
 use Rattle.math_lists.specs.Fill.{filled}
 use Rattle.standard.specs.Files.{file_bytes}
 use Rattle.io_files.proofs.to_bytes.Given as goal

@@ -1,8 +1,8 @@
 -- Each read goes behind the bytes that are there, so those are unchanged. The known bytes that it takes from the input stand behind
 -- those taken before. Each turn that goes on has read at least one byte.
-use Rattle.std.proofs.Common.{◌≡◌, ℕ, ◌+◌, ◌-◌, ◌≤◌, List, ◌++◌, rules, arith, length, take, drop, slice_range, sym, ap, ◌∙◌, subst, length-drop, length-take-le}
+use Rattle.std.proofs.Common.{◌≡◌, ℕ, ◌+◌, ◌-◌, ◌≤◌, List, ◌++◌, rules, arith, refl, length, take, drop, slice_range, sym, ap, ◌∙◌, subst, append-nil, length-drop, length-take-le}
 use Rattle.std.proofs.Math.Seq.{take-append-add}
-use Rattle.std.proofs.KnownBytes.{Consumes-trans}
+use Rattle.std.proofs.KnownBytes.{Consumes-trans, Consumes-kept}
 use Rattle.std.proofs.lemmas.List.{drop-take}
 use Rattle.std.proofs.lemmas.Slice.{take-put_mid_below}
 use Rattle.std.specs.Io.KnownBytes.{Consumes}
@@ -23,12 +23,21 @@ behind there done k n e xs ys from within fits end =
     ap (take (e - there)) rest ∙ ap (λ m. take m (front ++ (ys ++ post))) size ∙ take-append-add front (ys ++ post) n
     ∙ ap (λ l. front ++ l) (take-append-le n ys post fits) ∙ ap (λ l. l ++ take n ys) before
 
-pub returns-then-more-eq0-clause-taken : goal.returns-then-more-eq0-clause-taken
-returns-then-more-eq0-clause-taken g c =
+-- the end of the input, where a read gives none, and a read that failed
+pub returns-in-Ok-eq0-clause-taken : goal.returns-in-Ok-eq0-clause-taken
+returns-in-Ok-eq0-clause-taken g c =
+    let held = c.loop-done.invariant in
+    let more = c.in-Ok-eq0.ensures in
+    subst (Consumes _ _)
+    (sym (behind _ _ _ c.in-Ok-eq0.field-0 c.loop-done.done _ _ held.0 held.1 more.bound.0 (omega arith)))
+    (Consumes-trans _ _ _ _ _ held.5 more.bytes.0)
+
+pub returns-in-Err-clause-taken : goal.returns-in-Err-clause-taken
+returns-in-Err-clause-taken g c =
     let held = c.loop-done.invariant in
     subst (Consumes _ _)
-    (sym (behind _ _ _ c.read-more.result.count c.loop-done.done _ _ held.0 held.1 c.read-more.ensures.room (omega arith)))
-    (Consumes-trans _ _ _ _ _ held.5 c.read-more.ensures.taken)
+    (sym (behind _ _ _ 0 c.loop-done.done _ _ held.0 held.1 (omega arith) (omega arith) ∙ append-nil _))
+    (Consumes-kept _ _ _ _ held.5 c.in-Err.ensures.bytes)
 
 -- the bytes before index `done` are not read into
 stands : (there done k : ℕ) (old xs ys : List ℕ) → there ≤ done → done ≤ length xs → take there xs ≡ take there old
@@ -39,13 +48,13 @@ pub loop-done-preserved : goal.loop-done-preserved
 loop-done-preserved g c =
     let held = c.loop-done.invariant in
     let done = c.loop-done.done in
-    let more = c.read-more.result.count in (
+    let more = c.in-Ok.ensures in (
       search rules,
       search rules,
       search rules,
       stands _ _ _ _ _ _ held.0 held.1 held.3,
       λ h. absurd (omega arith),
       subst (Consumes _ _)
-          (sym (behind _ _ _ more (done + more) _ _ held.0 held.1 c.read-more.ensures.room (search rules)))
-          (Consumes-trans _ _ _ _ _ held.5 c.read-more.ensures.taken),
+          (sym (behind _ _ _ c.in-Ok.more (done + c.in-Ok.more) _ _ held.0 held.1 more.bound.0 refl))
+          (Consumes-trans _ _ _ _ _ held.5 more.bytes.0),
     )

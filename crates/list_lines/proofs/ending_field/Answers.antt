@@ -1,54 +1,25 @@
--- Each arm of the match tells which ending was passed, and puts the text of that ending. A stop is a text and then its number
--- (`puts_then`).
-use native.Mathlib.Omega.{arith}
-use Rattle.encoder.specs.Promise.{ending}
+-- Each arm of the match tells which ending was passed, and puts the text of that ending. A stop is a text and then its number.
+use mathlib.Core.Path.{refl}
+use mathlib.Core.List.{append_assoc, append-nil}
+use Rattle.lpc_reflection.specs.Promise.{ended}
 use Rattle.standard.specs.Listing.{text, ending_text}
-use Rattle.list_text.specs.Written.{puts_none, puts_length, puts_then}
 use Rattle.list_lines.specs.Lines.{ending_field}
+use Rattle.list_lines.specs.Told.{told_ending}
 use Rattle.list_lines.proofs.ending_field.Goals as goal
 
--- ---- the arms
+pub returns-in-Silent-clause-text : goal.returns-in-Silent-clause-text
+unfolding told_ending ended ending_field ending_text text
+returns-in-Silent-clause-text c = rw (c.in-Some.is, c.in-Silent.is, c.text.ensures.text) refl
 
-pub text-requires : goal.text-requires
-text-requires c = omega (arith, c.requires)
+pub returns-in-Stopped-clause-text : goal.returns-in-Stopped-clause-text
+unfolding told_ending ended ending_field ending_text text
+returns-in-Stopped-clause-text c =
+    rw (c.in-Some.is, c.in-Stopped.is, c.decimal.ensures.text, c.text-in-Stopped.ensures.text, c.from.ensures, append_assoc) refl
 
-pub text-after-requires : goal.text-after-requires
-text-after-requires c = omega (arith, c.requires)
+pub returns-in-Complete-clause-text : goal.returns-in-Complete-clause-text
+unfolding told_ending ended ending_field ending_text text
+returns-in-Complete-clause-text c = rw (c.in-Some.is, c.in-Complete.is, c.text-in-Complete.ensures.text) refl
 
-pub decimal-requires : goal.decimal-requires
-decimal-requires c =
-    let p = c.text-after.ensures.puts in
-    let l = puts_length p (omega (arith, c.requires, p.place)) in
-    (search arith, omega (arith, c.requires, p.place, l))
-
-pub text-requires-in-Complete : goal.text-requires-in-Complete
-text-requires-in-Complete c = omega (arith, c.requires)
-
-pub returns-in-Absent : goal.returns-in-Absent
-unfolding ending ending_field
-returns-in-Absent c = record {
-  puts = rw c.in-Absent.is (puts_none c.args.at c.args.out.now);
-  room = omega arith;
-}
-
-pub returns-in-Silent : goal.returns-in-Silent
-unfolding ending ending_field ending_text text
-returns-in-Silent c = record {
-  puts = rw c.in-Silent.is c.text.ensures.puts;
-  room = omega (arith, c.text.ensures.puts.place);
-}
-
-pub returns-in-Stopped : goal.returns-in-Stopped
-unfolding ending ending_field ending_text text
-returns-in-Stopped c =
-    let p = c.text-after.ensures.puts in record {
-      puts = rw c.in-Stopped.is (puts_then p (omega (arith, c.requires, p.place)) c.decimal.ensures.puts);
-      room = omega (arith, c.decimal.ensures.room, p.place);
-    }
-
-pub returns-in-Complete : goal.returns-in-Complete
-unfolding ending ending_field ending_text text
-returns-in-Complete c = record {
-  puts = rw c.in-Complete.is c.text-in-Complete.ensures.puts;
-  room = omega (arith, c.text-in-Complete.ensures.puts.place);
-}
+pub returns-in_default-clause-text : goal.returns-in_default-clause-text
+unfolding told_ending ending_field
+returns-in_default-clause-text c = rw (c.in_default.is, append-nil) refl

@@ -1,36 +1,20 @@
 -- Each arm of the match tells which mark was passed, and puts the text of that mark.
-use native.Mathlib.Omega.{arith}
+use mathlib.Core.Path.{refl}
+use mathlib.Core.List.{append-nil}
 use Rattle.encoder.specs.Promise.{mark}
 use Rattle.standard.specs.Listing.{text, mark_text}
-use Rattle.list_text.specs.Written.{puts_none}
 use Rattle.list_lines.specs.Lines.{mark_field}
+use Rattle.list_lines.specs.Told.{told_mark}
 use Rattle.list_lines.proofs.mark_field.Goals as goal
 
--- ---- the arms
+pub returns-in-Rule-clause-text : goal.returns-in-Rule-clause-text
+unfolding told_mark mark mark_field mark_text text
+returns-in-Rule-clause-text c = rw (c.in-Some.is, c.in-Rule.is, c.text.ensures.text) refl
 
-pub text-requires : goal.text-requires
-text-requires c = omega (arith, c.requires)
+pub returns-in-Found-clause-text : goal.returns-in-Found-clause-text
+unfolding told_mark mark mark_field mark_text text
+returns-in-Found-clause-text c = rw (c.in-Some.is, c.in-Found.is, c.text-in-Found.ensures.text) refl
 
-pub text-requires-in-Found : goal.text-requires-in-Found
-text-requires-in-Found c = omega (arith, c.requires)
-
-pub returns-in-Absent : goal.returns-in-Absent
-unfolding mark mark_field
-returns-in-Absent c = record {
-  puts = rw c.in-Absent.is (puts_none c.args.at c.args.out.now);
-  room = omega arith;
-}
-
-pub returns-in-Rule : goal.returns-in-Rule
-unfolding mark mark_field mark_text text
-returns-in-Rule c = record {
-  puts = rw c.in-Rule.is c.text.ensures.puts;
-  room = omega (arith, c.text.ensures.puts.place);
-}
-
-pub returns-in-Found : goal.returns-in-Found
-unfolding mark mark_field mark_text text
-returns-in-Found c = record {
-  puts = rw c.in-Found.is c.text-in-Found.ensures.puts;
-  room = omega (arith, c.text-in-Found.ensures.puts.place);
-}
+pub returns-in_default-clause-text : goal.returns-in_default-clause-text
+unfolding told_mark mark_field
+returns-in_default-clause-text c = rw (c.in_default.is, append-nil) refl

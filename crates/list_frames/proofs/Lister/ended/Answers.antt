@@ -1,19 +1,18 @@
--- Past the limit every E line is the same (`E_beyond`). So 320000001 bytes, a number that fits 32 bits, may stand for any more bytes.
+-- Past the limit every E line is the same (`E_beyond`). So the number of bytes may be cut at the greatest that 32 bits hold.
 use Prim.Native.Nat.{◌+◌, ◌*◌}
+use mathlib.Core.Path.{◌∙◌, ap}
+use mathlib.Core.Logic.{⊎_elim}
 use native.Mathlib.Omega.{arith}
+use Rattle.math_integers.specs.Halves.{le_or_lt}
+use Rattle.standard.specs.Listing.{E_line}
 use Rattle.list_borders.specs.Borders.{E_beyond}
 use Rattle.list_frames.proofs.Lister.ended.Goals as goal
 
-pub returns-then-self-gt1000000 : goal.returns-then-self-gt1000000
-returns-then-self-gt1000000 c = record {
-  puts =
-      rw (E_beyond (c.args.self.frames * 320 + c.args.rest) 320000001 (omega arith) (omega arith)) c.e_line.ensures.puts;
-  room = c.e_line.ensures.room;
-}
-
-pub returns-then-rest-gt320000000 : goal.returns-then-rest-gt320000000
-returns-then-rest-gt320000000 c =
-    let e = c.e_line-then-rest-gt320000000.ensures in record {
-      puts = rw (E_beyond (c.args.self.frames * 320 + c.args.rest) 320000001 (omega arith) (omega arith)) e.puts;
-      room = e.room;
-    }
+pub returns : goal.returns
+returns c =
+    let bytes = c.args.self.frames * 320 + c.args.rest in
+    c.e_line.ensures
+    ∙ ⊎_elim
+    (λ h. ap E_line (omega (arith, h, c.saturating_mul.ensures, c.saturating_add.ensures)))
+    (λ h. E_beyond c.saturating_add.result bytes (omega (arith, h, c.saturating_mul.ensures, c.saturating_add.ensures)) (omega (arith, h)))
+    (le_or_lt bytes 4294967295)

@@ -1,59 +1,54 @@
 -- The samples are the words of the bytes, so encode's promise is that of the frame. One law of `Promise` for each return: the
--- limit is reached, encode refused, or the lines of what it answered are put.
+-- limit is reached, encode refused, or the lines of what it answered are the text.
 use mathlib.Core.Path.{◌≡◌, refl, sym, ap, subst, ◌∙◌}
 use native.Mathlib.Omega.{arith}
 use mathlib.Core.List.{List}
 use lib.IntN.{ℤ, pos}
 use lib.ListN.{length, replicate}
 use borrow.Author.Rules.{rules}
+use Rattle.std.specs.Prelude.{Ok, Err}
 use Rattle.standard.specs.Files.{file_words}
-use Rattle.encoder.specs.Promise.{Encodes}
-use Rattle.list_frames.specs.Promise.{nothing, limit_keeps, refused_keeps, done_keeps}
+use Rattle.refusals.specs.Numbers.{number_of, refused_above}
+use Rattle.encoder.specs.Promise.{Answer, Encodes, state, ending, marks}
+use Rattle.list_frames.specs.Promise.{limit_keeps, refused_keeps, done_keeps}
+use Rattle.list_lines.specs.Told.{told_ending, told_four}
 use Rattle.list_frames.proofs.Lister.listed.Goals as goal
-use Rattle.list_frames.proofs.Lister.listed.Goals.{After-encode-coded}
+use Rattle.list_frames.proofs.Lister.listed.Goals.{After-encode}
 
 pub returns-then-self-ge1000000 : goal.returns-then-self-ge1000000
-unfolding nothing
-returns-then-self-ge1000000 c = record {
-  lists = limit_keeps c.args.self c.args.bytes.now c.args.out.now (omega arith);
-  room = omega arith;
-}
+returns-then-self-ge1000000 c = limit_keeps c.args.self c.args.bytes.now (omega arith) c.nothing.result c.nothing.ensures.state
+    c.nothing.ensures.lines
 
 -- what encode answers for the frame
-module _ (t : After-encode-coded) where
+module _ (t : After-encode) where
   -- the codewords, as they are passed
   abbrev empty : List ℤ
   empty = replicate 76 (pos 0)
 
-  sop_size : length t.samples-sop.result ≡ 160
+  sop_size : length t.samples.result ≡ 160
   sop_size = search rules
 
-  encodes : Encodes t.args.self.encoder (file_words t.args.bytes.now) empty t.encode-coded.result t.encode-coded.new.codewords
-  encodes =
-      subst (λ (x : List ℤ). Encodes t.args.self.encoder x empty t.encode-coded.result t.encode-coded.new.codewords)
-      t.samples-sop.ensures t.encode-coded.ensures
-
   sop_length : length (file_words t.args.bytes.now) ≡ 160
-  sop_length = ap length (sym t.samples-sop.ensures) ∙ sop_size
+  sop_length = ap length (sym t.samples.ensures) ∙ sop_size
 
-pub returns-then-coded-ne0 : goal.returns-then-coded-ne0
-unfolding nothing
-returns-then-coded-ne0 c =
-    let t = (goal.at.returns-then-coded-ne0 c).After-encode-coded in
-    let a = c.args in record {
-      lists =
-          refused_keeps a.self a.bytes.now a.out.now (empty t) _ c.encode-coded.result (encodes t) (sop_length t) refl
-          (λ n. omega arith);
-      room = omega arith;
-    }
+  -- of the samples, so of the bytes
+  of_bytes : (a : Answer) (left : List ℤ) → Encodes t.args.self.encoder t.samples.result empty a left
+      → Encodes t.args.self.encoder (file_words t.args.bytes.now) empty a left
+  of_bytes a left p = subst (λ (x : List ℤ). Encodes t.args.self.encoder x empty a left) t.samples.ensures p
+
+pub returns-in_default : goal.returns-in_default
+unfolding number_of
+returns-in_default c =
+    let t = (goal.at.returns-in_default c).After-encode in
+    let r = c.in_default.field-0 in
+    refused_keeps c.args.self c.args.bytes.now (empty t) _ (Err r) (of_bytes t (Err r) _ c.in_default.ensures) (sop_length t) refl
+    (λ n. omega (arith, refused_above r.refusal)) c.nothing-in_default.result c.nothing-in_default.ensures.state
+    c.nothing-in_default.ensures.lines
 
 pub returns : goal.returns
+unfolding number_of state ending marks told_ending
 returns c =
-    let t = (goal.at.returns c).After-encode-coded in
-    let a = c.args in
-    let e = c.frame_lines-length.ensures in record {
-      lists =
-          done_keeps a.self a.bytes.now a.out.now (empty t) _ c.encode-coded.result (encodes t) (sop_length t) refl
-          (omega arith) (omega arith) c.frame_lines-length.result _ e.puts;
-      room = e.room;
-    }
+    let t = (goal.at.returns c).After-encode in
+    let coded = c.in-Ok.coded in
+    done_keeps c.args.self c.args.bytes.now (empty t) _ (Ok coded) (of_bytes t (Ok coded) _ c.in-Ok.ensures) (sop_length t) refl
+    (omega arith) refl c.frame_lines.result (rw (told_four coded.marks (search rules)) at c.frame_lines.ensures)

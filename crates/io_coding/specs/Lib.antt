@@ -1,0 +1,2 @@
+-- All that the specs of this crate have: what a turn does with the bytes that have come.
+pub mod Turn
