@@ -65,12 +65,12 @@ OTHERS = {
     # an .edit file
     'Rattle, goals': '''
         goal. args ranges fn initial branch type_inv invariant overflow_add-x f-requires if-n-lt15 Else-n-lt15 if-x-b
-        then-x-b else-x-b loop-k m-bits m-is After-f now-1 x-1 file: old: new:
+        then-x-b else-x-b loop-k m-bits m-is w After-f At-loop-k bounds-s-k decreases-loop-i now-1 x-1 file: old: new:
         '''.split(),
     # the toolchain: its programs, options and variables, what they print, its library and its guides
     'Rattle, kit': '''
         Rattle rattle rt --allow-holes --generated --start --only --anew logic= axioms FitsSigned libc write_all
-        rattle_errno rattle/FIRST_PROOFS.md rattle/SHORTER_PROOFS.md
+        rattle_errno IsAlwaysCallable rattle/FIRST_PROOFS.md rattle/SHORTER_PROOFS.md
         '''.split(),
     # names in the standard's clause 4 that nothing here is called after
     'the standard': 'L_add L_temp L_result'.split(),
@@ -79,7 +79,10 @@ OTHERS = {
     # other codecs, and the ending of their files
     'codecs': 'libgsm spandsp libavcodec gsm'.split(),
     # the libraries of C and of Rust
-    'C and Rust': 'memcpy memset std core no_std size_t'.split(),
+    'C and Rust': '''
+        memcpy memset std core no_std size_t From Option Result from_fn iter iter_mut enumerate chunks_exact try_from
+        unwrap_or_else unsigned_abs arrayvec itoa
+        '''.split(),
 }
 ALLOWED = {word for words in OTHERS.values() for word in words}
 
