@@ -2,7 +2,7 @@
 // input gives or whether a write succeeds.
 #![tactic(auto)]
 
-ghost use Rattle.std.specs.Prelude.{◌≡◌, ◌++◌, ◌-◌, ◌/◌, ◌≤◌, ◌<◌, ◌↔◌, min, length, take, drop, slice_range, IfOk, IsOk};
+ghost use Rattle.std.specs.Prelude.{◌≡◌, ◌++◌, ◌-◌, ◌/◌, ◌≤◌, ◌<◌, ◌↔◌, min, length, take, drop, slice_range, IfOk, IfErr, IsOk};
 ghost use Rattle.std.specs.Io.KnownBytes.{Consumes, IsAtEnd};
 ghost use Rattle.io_streams.specs.declared.Failure.TheVariants.{Unreadable};
 ghost use Rattle.io_streams.specs.Promise.{Gathered, bytes_there};
@@ -86,9 +86,10 @@ pub fn keep(from: usize, count: usize, room: &mut [u8]) -> usize
     count - from
 }
 
-// Whether a write succeeded, from what it answered.
+// Whether a write succeeded, from what it answered. Where it did not, the failure is that of a write.
 pub fn written(outcome: io::Result<()>) -> Result<(), Failure>
-    ensures { IsOk result ↔ IsOk outcome }
+    ensures outcome { IsOk result ↔ IsOk outcome }
+    ensures failure { IfErr result (λ failure. failure ≡ Failure.Unwritable) }
 {
     outcome.map_err(|_| Failure::Unwritable)
 }
