@@ -2,3 +2,4 @@
 pub mod Promise
 pub mod Crossing
 pub mod Flags
+pub mod Decoded

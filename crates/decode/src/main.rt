@@ -62,6 +62,7 @@ fn main(rt: HostRuntime) {
         &rt,
         &mut decoder,
         4294967295,
+        1,
         &mut room,
         &mut out,
     );

@@ -60,6 +60,7 @@ fn main(rt: HostRuntime) {
         &rt,
         &mut encoder,
         4294967295,
+        1,
         &mut room,
         &mut out,
     );

@@ -5,7 +5,7 @@
 ghost use Rattle.std.specs.Prelude.{◌≡◌, ℕ, List, ◌+◌, ◌*◌, ◌/◌, ◌^◌, ◌≤◌, ◌<◌, ◌⊎◌, length, ⊤, None, Ok, IfOk, IfSome};
 ghost use Rattle.std.specs.Io.KnownBytes.{IsAtEnd};
 ghost use Rattle.list_text.specs.Written.{Puts};
-ghost use Rattle.io_streams.specs.Frames.{Through};
+ghost use Rattle.io_streams.specs.Frames.{through, Through};
 ghost use Rattle.io_coding.specs.Turn.{Turned};
 
 use io_streams::Failure;
@@ -23,7 +23,7 @@ pub trait FrameCoder {
     ghost BYTES_OUT: { ℕ };
 
     // The coder as a promise sees it; how a frame's bytes take it to the next one and to the bytes that are written,
-    // and whether this is promised; how many frames the coder may still be given.
+    // and whether these bytes are promised; how many frames the coder may still be given.
     ghost State: { Type 0 };
 
     ghost state: { Self → State };
@@ -37,7 +37,7 @@ pub trait FrameCoder {
     // Codes a frame: puts the bytes that are to be written at the front of `out`, and answers how many they are.
     fn frame(&mut self, bytes: &[u8], out: &mut [u8]) -> usize
         requires { (0 < limit self.old) × ((length bytes.now ≡ BYTES_IN) × (length out.old ≡ BYTES_OUT)) }
-        ensures state { is_told → state self.new ≡ (step (state self.old) bytes.now).0 }
+        ensures state { state self.new ≡ (step (state self.old) bytes.now).0 }
         ensures bytes { is_told → Puts 0 (step (state self.old) bytes.now).1 out.old result out.new }
         ensures room { result ≤ BYTES_OUT }
         ensures limit { limit self.old ≤ limit self.new + 1 };
@@ -54,6 +54,29 @@ pub trait FrameCoder {
         Self::BYTES_IN
     }
 
+    // Codes `frames` frames, one behind the other, and answers how many bytes they give. A coder that does better with
+    // many frames at once than frame by frame has a body of its own.
+    fn code(&mut self, frames: usize, bytes: &[u8], out: &mut [u8]) -> usize
+        requires frames { frames ≤ limit self.old }
+        requires room { (BYTES_IN * frames ≤ length bytes.now) × (BYTES_OUT * frames ≤ length out.old) }
+        ensures state { state self.new ≡ (through step BYTES_IN (state self.old) frames bytes.now).0 }
+        ensures codes { is_told → Through step BYTES_IN (state self.old) frames bytes.now out.old
+            (state self.new) result out.new }
+        ensures room { result ≤ BYTES_OUT * frames }
+        ensures within { result ≤ length out.new }
+    {
+        let mut end = 0;
+        // The index is data: it says where a frame's bytes begin, and a promise counts the frames.
+        for i in 0..frames {
+            let from = Self::BYTES_IN * i;
+            end += self.frame(
+                &bytes[from..from + Self::BYTES_IN],
+                &mut out[end..end + Self::BYTES_OUT],
+            );
+        }
+        end
+    }
+
     // What is to be said where no whole frame is left, or none may follow. So many bytes are left over.
     fn end(&self, rt: &(impl Print + Eprint), rest: usize) -> Result<(), Failure>
         requires { rest < 2 ^ 32 }
@@ -63,27 +86,6 @@ pub trait FrameCoder {
     }
 
     ghost some_bytes: { 0 < BYTES_IN };
-}
-
-// Codes `frames` frames, one behind the other, and answers how many bytes they give.
-fn code<C: FrameCoder>(coder: &mut C, frames: usize, bytes: &[u8], out: &mut [u8]) -> usize
-    requires frames { frames ≤ C.limit coder.old }
-    requires room { (C.BYTES_IN * frames ≤ length bytes.now) × (C.BYTES_OUT * frames ≤ length out.old) }
-    ensures codes { C.is_told → Through C.step C.BYTES_IN (C.state coder.old) frames bytes.now out.old
-        (C.state coder.new) result out.new }
-    ensures room { result ≤ C.BYTES_OUT * frames }
-    ensures within { result ≤ length out.new }
-{
-    let mut end = 0;
-    // The index is data: it says where a frame's bytes begin, and a promise counts the frames.
-    for i in 0..frames {
-        let from = C::BYTES_IN * i;
-        end += coder.frame(
-            &bytes[from..from + C::BYTES_IN],
-            &mut out[end..end + C::BYTES_OUT],
-        );
-    }
-    end
 }
 
 // Codes and writes the frames that have come. Bytes that make no frame yet are kept for the next turn: answers how
@@ -101,7 +103,7 @@ fn turn<C: FrameCoder, R: Read>(
         × (C.BYTES_OUT * (length room.old / C.BYTES_IN) ≤ length out.old) }
     ensures room { IfOk result (λ next. IfSome next (λ rest. rest ≤ length room.new)) }
     ensures turned { IfOk result (λ next. IfSome next (λ rest.
-        C.is_told → Turned C.step C.BYTES_IN (C.state coder.old) (C.limit coder.old) there room.old out.old
+        Turned C.is_told C.step C.BYTES_IN (C.state coder.old) (C.limit coder.old) there room.old out.old
         (C.state coder.new) rest room.new out.new)) }
     ensures ended { result ≡ Ok None → (C.limit coder.old ≡ 0) ⊎ IsAtEnd (R.remaining input.new) }
 {
@@ -111,19 +113,20 @@ fn turn<C: FrameCoder, R: Read>(
         coder.end(rt, count)?;
         return Ok(None);
     }
-    let end = code(coder, frames, room, out);
+    let end = coder.code(frames, room, out);
     let rest = io_streams::keep(C::BYTES_IN * frames, count, room);
     io_streams::written(rt.write_all(&out[..end]))?;
     Ok(Some(rest))
 }
 
-// Codes the input, `turns` times what has come. The program must be shown to end, and nothing says that an input ends,
-// so the turns are counted. Each that is not the last codes at least one frame.
+// Codes the input, `turns` times `each` times what has come. The program must be shown to end, and nothing says that an
+// input ends, so the turns are counted. Each that is not the last codes at least one frame.
 pub fn run<C: FrameCoder>(
     input: &mut impl Read,
     rt: &(impl Print + Eprint),
     coder: &mut C,
-    turns: u64,
+    turns: u32,
+    each: u32,
     room: &mut [u8],
     out: &mut [u8],
 ) -> Result<(), Failure>
@@ -133,10 +136,12 @@ pub fn run<C: FrameCoder>(
 {
     let mut there = 0;
     for _ in 0..turns {
-        let Some(rest) = turn(input, rt, coder, there, room, out)? else {
-            break;
-        };
-        there = rest;
+        for _ in 0..each {
+            let Some(rest) = turn(input, rt, coder, there, room, out)? else {
+                return Ok(());
+            };
+            there = rest;
+        }
     }
     Ok(())
 }

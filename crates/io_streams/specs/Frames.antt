@@ -60,18 +60,28 @@ module _ {S : Type 0} (step : S → List ℕ → S × List ℕ) (size : ℕ) whe
   unfolding cut run flatten
   through_none s xs lent = record { state = refl; bytes = puts_none 0 lent }
 
-  -- a turn: the frame behind the first n, as the code takes it, and its bytes put behind theirs
+  -- a frame more: the one behind the first n
+  through_more : (s : S) (n : ℕ) (xs : List ℕ) → let t = step (through s n xs).0 (take size (drop (size * n) xs)) in
+      through s (n + 1) xs ≡ (t.0, (through s n xs).1 ++ (t.1 ∷ []))
+  through_more s n xs = rw (add-one, cut_more size n xs) (run_last s (cut (replicate n size) xs) (take size (drop (size * n) xs)))
+
+  -- the state after it, as the code takes it
+  pub through_goes : (s : S) (n : ℕ) (xs : List ℕ) {t u : S} → t ≡ (through s n xs).0
+      → let f = take (size * n + size - size * n) (drop (size * n) xs) in u ≡ (step t f).0 → u ≡ (through s (n + 1) xs).0
+  through_goes s n xs p e =
+      let k : size * n + size - size * n ≡ size = omega arith in
+      rw (through_more s n xs, ← p) (rw k at e)
+
+  -- a turn: this frame, and its bytes put behind theirs
   pub through_next : {s t : S} {n r : ℕ} {xs lent left : List ℕ} → Through s n xs lent t r left → r ≤ length lent
       → {u : S} {q : ℕ} {after : List ℕ} → let f = take (size * n + size - size * n) (drop (size * n) xs) in
       u ≡ (step t f).0 → Puts r (step t f).1 left q after → Through s (n + 1) xs lent u q after
   through_next {s} {t} {n} {r} {xs} p h e w =
       let k : size * n + size - size * n ≡ size = omega arith in
       let x = take size (drop (size * n) xs) in
-      let more : through s (n + 1) xs ≡ ((step t x).0, (through s n xs).1 ++ ((step t x).1 ∷ [])) =
-      rw (add-one, cut_more size n xs, p.state) (run_last s (cut (replicate n size) xs) x) in
       record {
-        state = rw more (rw k at e);
-        bytes = rw (more, flatten_last (through s n xs).1 (step t x).1) (puts_then p.bytes h (rw k at w));
+        state = through_goes s n xs p.state e;
+        bytes = rw (through_more s n xs, ← p.state) (rw (flatten_last (through s n xs).1 (step t x).1) (puts_then p.bytes h (rw k at w)));
       }
 
   -- a turn where each frame gives m bytes, and the part of the buffer for them is passed

@@ -9,7 +9,7 @@ ghost use Rattle.standard.specs.Listing.{E_line};
 ghost use Rattle.list_frames.specs.Promise.{state, Lists};
 
 use encoder::Encoder;
-use list_text::Text;
+use list_text::{Lines, Text};
 
 // What is kept from frame to frame: how many are listed, and the encoder.
 #[derive(Clone, Copy)]
@@ -19,10 +19,10 @@ pub struct Lister {
 }
 
 // The lister after a frame, and the frame's lines.
-#[derive(Drop)]
+#[derive(Clone, Copy)]
 pub struct Listed {
     pub state: Lister,
-    pub lines: Text,
+    pub lines: Lines,
 }
 
 // The 160 samples of a frame's bytes.
@@ -52,7 +52,7 @@ impl Lister {
     {
         Listed {
             state: self,
-            lines: Text::new(),
+            lines: Lines::of(&Text::new()),
         }
     }
 
@@ -70,17 +70,18 @@ impl Lister {
         };
         let [first, second, third, fourth] = coded.marks;
         let frames = self.frames + 1;
+        let lines = list_lines::frame_lines(
+            frames,
+            Some(coded.ending),
+            [Some(first), Some(second), Some(third), Some(fourth)],
+            &codewords,
+        );
         Listed {
             state: Lister {
                 frames,
                 encoder: coded.state,
             },
-            lines: list_lines::frame_lines(
-                frames,
-                Some(coded.ending),
-                [Some(first), Some(second), Some(third), Some(fourth)],
-                &codewords,
-            ),
+            lines: Lines::of(&lines),
         }
     }
 

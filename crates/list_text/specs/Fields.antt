@@ -1,7 +1,7 @@
 -- Fields of a line, each after its tab; and how long a number's field can be.
 use Rattle.std.specs.Prelude.{ℕ, zero, suc, ◌+◌, ◌/◌, ◌%◌, ◌^◌, ◌≤◌, ◌<◌, ◌≡◌, refl, Bool, false, List, [], ◌∷◌, ◌++◌, map, ltb, ℤ, pos, length, get_or, take, drop, set}
 use Rattle.std.specs.Fmt as fmt
-use Rattle.std.proofs.Common.{⊎_elim, append_assoc, append-nil, add-one, arith, length-append, length-set, take-suc, drop-cons, get_or-set_same, drop-set-lt, lt-ltb, le-ltb, ltb-true, ltb-false, pow-suc}
+use Rattle.std.proofs.Common.{sym, ⊎_elim, append_assoc, append-nil, add-one, arith, length-append, length-set, take-suc, drop-cons, get_or-set_same, drop-set-lt, lt-ltb, le-ltb, ltb-true, ltb-false, pow-suc}
 use Rattle.std.proofs.lemmas.Fmt.{decimal_by_steps}
 use Rattle.std.proofs.lemmas.List.{map-append}
 use Rattle.std.proofs.Math.Seq.{append_snoc}
@@ -69,7 +69,14 @@ digit_one n h =
     let p : ℕ → Bool = λ k. ltb n (10 ^ k) in
     omega (arith, first_ge p n 1, first_until p n 1 1 (omega arith) (lt-ltb n 10 h))
 
--- so they are enough for it
+-- which is its byte
+pub decimal_one : (n : ℕ) → n < 10 → decimal n ≡ (48 + n) ∷ []
+unfolding decimal digits
+decimal_one n h =
+    let same : n % 10 ≡ n = omega arith in
+    rw (digit_one n h, same) refl
+
+-- so its digits are enough for it
 pub digits_enough : (n : ℕ) → n < 10000000 → n < 10 ^ digit_count n
 digits_enough n h = ⊎_elim (λ (few : n ≤ 9). rw (digit_one n (omega arith)) (omega arith)) enough (le_or_lt n 9)
   where
@@ -96,9 +103,7 @@ unfolding decimal digits
 printed n h = decimal_by_steps (λ m ds. m < 10000000 → ds ≡ decimal m) one more n (omega arith) h
   where
     one : (m : ℕ) → m < 10 → m < 10000000 → (48 + m) ∷ [] ≡ decimal m
-    one m few l =
-        let same : m % 10 ≡ m = omega arith in
-        rw (digit_one m few, same) refl
+    one m few l = sym (decimal_one m few)
 
     more : (m : ℕ) (ds : List ℕ) → 10 ≤ m → (m / 10 < 10000000 → ds ≡ decimal (m / 10)) → m < 10000000
         → ds ++ ((48 + m % 10) ∷ []) ≡ decimal m

@@ -37,9 +37,9 @@ impl FrameCoder for FileLister {
         let bytes = <&[u8; 320]>::try_from(bytes).unwrap();
         let listed = self.0.listed(bytes);
         self.0 = listed.state;
-        let length = listed.lines.len();
-        out[..length].copy_from_slice(&listed.lines);
-        length
+        let lines = listed.lines.as_slice();
+        out[..lines.len()].copy_from_slice(lines);
+        lines.len()
     }
 
     // The first 1,000,000 frames are listed.
@@ -65,6 +65,7 @@ fn list(rt: &HostRuntime) -> Result<(), Failure> {
         rt,
         &mut lister,
         1000001,
+        1,
         &mut room,
         &mut out,
     )

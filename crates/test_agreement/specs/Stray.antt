@@ -3,11 +3,11 @@
 use Rattle.std.specs.Prelude.{ℕ, ◌+◌, ◌*◌, ◌%◌, ◌^◌, ◌<◌, ◌≤◌, ◌≡◌, refl, ℤ, pos, ◌+ℤ◌, ◌*ℤ◌, nat_abs, length}
 use Rattle.std.proofs.Common.{sym, ap, ap₂, ◌∙◌, arith, mul-le-mul_left, pow_pos}
 use mathlib.Core.List.{List, [], ◌∷◌, zip_with, flatten}
-use Rattle.math_integers.specs.Halves.{P, N, zar}
+use Rattle.math_integers.specs.Halves.{P, N, zar, apart}
 use Rattle.math_integers.specs.Sums.{add_is, scale_is}
 use Rattle.standard.specs.Arithmetic.{modulo}
-use Rattle.math_lists.specs.Tab.{zip_length}
-use Rattle.standard.specs.Tables.{LARc_widths}
+use Rattle.math_lists.specs.Tab.{zip_length, zip_at}
+use Rattle.standard.specs.Tables.{◌at◌, LARc_widths}
 use Rattle.standard.specs.Frame.{sub_widths, widths, valid}
 use Rattle.law_arithmetic.specs.Shift.{modulo_raised}
 use Rattle.law_fields.specs.Valid.{low_bits}
@@ -20,6 +20,14 @@ stray k = zip_with (λ width c. c +ℤ k *ℤ pos (2 ^ width)) widths
 pub stray_length : (k : ℤ) (c : List ℤ) → length c ≡ 76 → length (stray k c) ≡ 76
 unfolding widths LARc_widths sub_widths flatten stray
 stray_length k c h = rw zip_length (omega arith)
+
+-- the last codeword gets k times 8, so it is as it was only where k is 0
+pub last_untouched : (k : ℤ) (c : List ℤ) → length c ≡ 76 → stray k c at 75 ≡ c at 75 → k ≡ pos 0
+unfolding widths LARc_widths sub_widths flatten stray
+last_untouched k c h same =
+    let moved : c at 75 +ℤ k *ℤ pos 8 ≡ c at 75
+    = sym (zip_at _ widths c 75 0 (pos 0) (pos 0) (omega arith) (omega arith)) ∙ same in
+    omega (zar, moved, scale_is k 8, add_is (c at 75) (k *ℤ pos 8), apart k)
 
 -- adding a multiple of m does not change a number modulo m
 modulo_moved : (c k : ℤ) (m : ℕ) → 0 < m → modulo (c +ℤ k *ℤ pos m) m ≡ modulo c m

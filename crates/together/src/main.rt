@@ -3,10 +3,11 @@
 // or plain, the loudest sample of the history, and the verdict.
 #![tactic(auto)]
 
-ghost use Rattle.std.specs.Prelude.{◌≡◌, true, cond, ◌↔◌, [], Some, None, ◌+◌, ◌-◌, ◌*◌, ◌≤◌, ◌<◌, length, pos};
+ghost use Rattle.std.specs.Prelude.{◌≡◌, true, cond, ◌↔◌, ℕ, Some, None, ◌+◌, ◌-◌, ◌*◌, ◌≤◌, ◌<◌, length, pos};
 ghost use Rattle.std.proofs.Common.{rules};
 ghost use Rattle.standard.specs.Arithmetic.{within};
 ghost use Rattle.standard.specs.Tables.{neg};
+ghost use Rattle.together.specs.Count.{counted};
 
 use arrayvec::ArrayVec;
 use decoder::Decoder;
@@ -205,16 +206,16 @@ impl FrameCoder for Tally {
 
     const BYTES_OUT: usize = 64;
 
-    // What the lines say is not promised: the step is left open.
+    // Each frame is counted. What the lines say is not promised.
     ghost BYTES_IN = { 320 };
 
     ghost BYTES_OUT = { 64 };
 
-    ghost State = { Unit {0} };
+    ghost State = { ℕ };
 
-    ghost state = { λ _. tt };
+    ghost state = { λ t. t.frames };
 
-    ghost step = { λ _ _. (tt, []) };
+    ghost step = { counted };
 
     ghost is_told = { ⊥ };
 
@@ -279,6 +280,7 @@ fn main(rt: HostRuntime) {
         &rt,
         &mut tally,
         1000001,
+        1,
         &mut room,
         &mut out,
     );

@@ -1,5 +1,5 @@
 -- A negative codeword does not fit. One that is not negative fits exactly when it is below 2^width.
-use mathlib.Core.Path.{sym, ◌∙◌}
+use mathlib.Core.Path.{sym}
 use Rattle.math_integers.specs.Halves.{zar, know}
 use Rattle.math_integers.specs.Ranges.{back}
 use Rattle.law_fields.specs.Fit.{fit_negative, fit_compared}
@@ -14,4 +14,4 @@ returns-then-c-ge0 c =
 pub returns-else-c-ge0 : goal.returns-else-c-ge0
 returns-else-c-ge0 c =
     let t = rw (back c.ranges.c) at c.if-c-ge0.false in
-    rw (back c.ranges.c) (t ∙ sym (fit_negative c.args.width c.args.c (omega (zar, t, know c.ranges.c))))
+    cc (back c.ranges.c, c.if-c-ge0.false, fit_negative c.args.width c.args.c (omega (zar, t, know c.ranges.c)))

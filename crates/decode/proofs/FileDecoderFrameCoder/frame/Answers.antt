@@ -10,7 +10,7 @@ use Rattle.decode.proofs.FileDecoderFrameCoder.frame.Goals.{in-Ok, in-Err}
 
 pub returns-clause-state : goal.returns-clause-state
 unfolding decoded state
-returns-clause-state c told =
+returns-clause-state c =
     let e = c.decode.ensures in
     let kept : c.match-decode.self ≡ state c.decode.result
     = elim c.match-decode.branch [ in-Ok w ↦ rw (w.in-Ok.is, w.self-is) | in-Err w ↦ rw (w.in-Err.is, w.self-is) ]

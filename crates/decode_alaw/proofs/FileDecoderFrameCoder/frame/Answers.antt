@@ -10,7 +10,7 @@ use Rattle.decode_alaw.proofs.FileDecoderFrameCoder.frame.Goals.{in-Ok, in-Err}
 
 pub returns-clause-state : goal.returns-clause-state
 unfolding decoded state
-returns-clause-state c told =
+returns-clause-state c =
     let e = c.decode_alaw.ensures in
     let kept : c.match-decode_alaw.self ≡ state c.decode_alaw.result
     = elim c.match-decode_alaw.branch [ in-Ok w ↦ rw (w.in-Ok.is, w.self-is) | in-Err w ↦ rw (w.in-Err.is, w.self-is) ]

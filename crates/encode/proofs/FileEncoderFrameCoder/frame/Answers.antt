@@ -10,7 +10,7 @@ use Rattle.encode.proofs.FileEncoderFrameCoder.frame.Goals.{in-Ok, in-Err}
 
 pub returns-clause-state : goal.returns-clause-state
 unfolding encoded state
-returns-clause-state c told =
+returns-clause-state c =
     let e = c.encode.ensures in
     let kept : c.match-encode.self ≡ state c.encode.result
     = elim c.match-encode.branch [ in-Ok w ↦ rw (w.in-Ok.is, w.self-is) | in-Err w ↦ rw (w.in-Err.is, w.self-is) ]

@@ -9,7 +9,7 @@ use Rattle.encode_alaw.proofs.FileEncoderFrameCoder.frame.Goals.{in-Ok, in-Err}
 
 pub returns-clause-state : goal.returns-clause-state
 unfolding encoded state
-returns-clause-state c told =
+returns-clause-state c =
     let e = c.encode_alaw.ensures in
     let kept : c.match-encode_alaw.self ≡ state c.encode_alaw.result
     = elim c.match-encode_alaw.branch [ in-Ok w ↦ rw (w.in-Ok.is, w.self-is) | in-Err w ↦ rw (w.in-Err.is, w.self-is) ]

@@ -51,4 +51,4 @@ returns c =
     let t = (goal.at.returns c).After-encode in
     let coded = c.in-Ok.coded in
     done_keeps c.args.self c.args.bytes.now (empty t) _ (Ok coded) (of_bytes t (Ok coded) _ c.in-Ok.ensures) (sop_length t) refl
-    (omega arith) refl c.frame_lines.result (rw (told_four coded.marks (search rules)) at c.frame_lines.ensures)
+    (omega arith) refl c.of.result (c.of.ensures ∙ (rw (told_four coded.marks (search rules)) at c.frame_lines-lines.ensures))

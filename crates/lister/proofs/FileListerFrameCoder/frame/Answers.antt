@@ -25,6 +25,5 @@ pub returns-clause-bytes : goal.returns-clause-bytes
 returns-clause-bytes c told =
     let own = (rw c.unwrap-bytes.ensures at c.try_from.ensures.1).same in
     let lines = rw own at c.listed-listed.ensures.lines in
-    let size : c.len-length.result ≡ length c.listed-listed.result.lines.items = search rules in
-    let copy = c.copy_from_slice.ensures.after ∙ c.deref.ensures.0 in
-    record { place = rw (size, lines) (omega arith); text = rw (copy, size, lines) refl }
+    let text = c.as_slice-lines.ensures ∙ lines in
+    record { place = ap length text ∙ omega arith; text = rw (c.copy_from_slice.ensures.after, text) refl }
