@@ -11,6 +11,9 @@ ghost use Rattle.io_coding.specs.Turn.{Turned};
 use io_streams::Failure;
 use std::io::Read;
 
+#[cfg(test)]
+mod tests;
+
 // What a program makes of its input, frame after frame.
 pub trait FrameCoder {
     // The bytes of a frame, and how many bytes are written for one at most.
@@ -141,6 +144,36 @@ pub fn run<C: FrameCoder>(
                 return Ok(());
             };
             there = rest;
+        }
+    }
+    Ok(())
+}
+
+// The same with any number of turns that a u64 holds, and with no u64: 2^32 times `high`, plus `low`.
+pub fn run_counted<C: FrameCoder>(
+    input: &mut impl Read,
+    rt: &(impl Print + Eprint),
+    coder: &mut C,
+    high: u32,
+    low: u32,
+    room: &mut [u8],
+    out: &mut [u8],
+) -> Result<(), Failure>
+    requires { ((C.BYTES_IN ≤ length room.old) × (length room.old < 2 ^ 32))
+        × (C.BYTES_OUT * (length room.old / C.BYTES_IN) ≤ length out.old) }
+    ensures buffers { (length room.new ≡ length room.old) × (length out.new ≡ length out.old) }
+{
+    let mut there = 0;
+    // The numbers of the turns, in two words, up to that of the first that is not taken.
+    for i in 0..=high {
+        for j in 0..=u32::MAX {
+            if (i, j) == (high, low) {
+                return Ok(());
+            }
+            match turn(input, rt, coder, there, room, out)? {
+                Some(rest) => there = rest,
+                None => return Ok(()),
+            }
         }
     }
     Ok(())

@@ -10,6 +10,9 @@ use arrayvec::ArrayVec;
 use itoa::Buffer;
 use std::marker::Model;
 
+#[cfg(test)]
+mod tests;
+
 // A line of the listing, or the lines of a frame.
 pub type Text = ArrayVec<u8, 1024>;
 
@@ -52,9 +55,10 @@ impl Lines {
         Lines { bytes, len }
     }
 
-    // Its bytes.
+    // Its bytes, at most as many as a text may have.
     pub fn as_slice(&self) -> &[u8]
-        ensures { result.now ≡ self.now.items }
+        ensures bytes { result.now ≡ self.now.items }
+        ensures room { length result.now ≤ 1024 }
     {
         &self.bytes[..self.len]
     }

@@ -25,5 +25,5 @@ pub returns-clause-bytes : goal.returns-clause-bytes
 returns-clause-bytes c told =
     let own = (rw c.unwrap-bytes.ensures at c.try_from.ensures.1).same in
     let lines = rw own at c.listed-listed.ensures.lines in
-    let text = c.as_slice-lines.ensures ∙ lines in
+    let text = c.as_slice-lines.ensures.bytes ∙ lines in
     record { place = ap length text ∙ omega arith; text = rw (c.copy_from_slice.ensures.after, text) refl }
